@@ -1,0 +1,5 @@
+pub mod Bits
+pub mod Codes
+pub mod Faults
+pub mod Headers
+pub mod Packets

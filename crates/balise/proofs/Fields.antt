@@ -36,3 +36,21 @@ field-below bytes at w = number-below (bit bytes) (bit-below bytes) at w
 -- fewer than 16 bits leave room for one more in 16
 pub field-room : (bytes : List ℕ) (at w : ℕ) → w < 16 → field bytes at w < 32768
 field-room bytes at w h = omega (arith, field-below bytes at w, pow-mono {i = w} {j = 15} (omega arith))
+
+-- a bit of what is left after k bytes is one of the whole
+bit-drop : (bytes : List ℕ) (k i : ℕ) → bit (drop k bytes) i ≡ bit bytes (8 * k + i)
+bit-drop bytes k i =
+    let d : (8 * k + i) / 8 ≡ k + i / 8 = omega arith in
+    let m : (8 * k + i) % 8 ≡ i % 8 = omega arith in
+    simp (d, m, getD-drop)
+
+number-drop : (bytes : List ℕ) (k o w : ℕ) → number (bit (drop k bytes)) o w ≡ number (bit bytes) (8 * k + o) w
+number-drop bytes k o zero = refl
+number-drop bytes k o (suc w) =
+    let i : 8 * k + (o + w) ≡ 8 * k + o + w = omega arith in
+    simp (number-drop bytes k o w, bit-drop, i)
+
+-- a field of the part from byte k on is the field of the whole, 8 * k bits further
+pub field-drop : (bytes : List ℕ) (k o w : ℕ) → field (drop k bytes) o w ≡ field bytes (8 * k + o) w
+unfolding field
+field-drop bytes k o w = number-drop bytes k o w

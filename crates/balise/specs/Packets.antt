@@ -73,3 +73,21 @@ Within (Ok End) at end = Unit {0}
 Within (Ok (Other length)) at end = (23 ≤ length) × (at + length ≤ end)
 Within (Ok (Tbl1 packet)) at end = at + 48 ≤ end
 Within (Err fault) at end = Unit {0}
+
+-- a packet in front of those behind it
+abbrev pub before : Tbl1Packet → Result (List Tbl1Packet) PacketFault → Result (List Tbl1Packet) PacketFault
+before p (Ok ps) = Ok (p ∷ ps)
+before p (Err e) = Err e
+
+-- the TBL1+ packets from the bit `at` on, by what was found there and what `rest` gives from the next packet on
+abbrev pub packetsBy : Result Found PacketFault → ℕ → (ℕ → Result (List Tbl1Packet) PacketFault) → Result (List Tbl1Packet) PacketFault
+packetsBy (Ok End) at rest = Ok []
+packetsBy (Ok (Other length)) at rest = rest (at + length)
+packetsBy (Ok (Tbl1 p)) at rest = before p (rest (at + 48))
+packetsBy (Err e) at rest = Err e
+
+-- the TBL1+ packets from the bit `at` on of a telegram of `end` bits, which has at most so many packets from there on
+unfoldable pub packetsFrom : ℕ → List ℕ → ℕ → ℕ → Result (List Tbl1Packet) PacketFault
+packetsFrom zero bytes at end = Err (NoEnd at)
+packetsFrom (suc most) bytes at end =
+    cond (ltb end (at + 8)) (Err (NoEnd at)) (packetsBy (packetIn bytes at at end) at (λ next. packetsFrom most bytes next end))

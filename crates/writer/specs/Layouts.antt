@@ -1,0 +1,53 @@
+-- How the values of a telegram lie in its bits.
+use Prim.Native.Nat.{ℕ, _+_, _-_, _*_, _/_, _%_, _^_}
+use lib.Dec.{ltb}
+use mathlib.Core.Bool.{Bool, true, cond, _&&_}
+use mathlib.Core.List.{List, [], _∷_, map}
+use Rattle.std.specs.Iters.{counting}
+use Rattle.balise.specs.Bits.{number}
+use Rattle.writer.specs.declared.draft.Draft.{Draft}
+use Rattle.writer.specs.declared.layout.Field.{Field}
+
+-- a value in so many bits
+abbrev pub in-bits : ℕ → ℕ → Field
+in-bits v w = record { value = v; width = w }
+
+-- header, TBL1+ packet and packet 255, field by field
+unfoldable pub layout : Draft → List Field
+layout d =
+    in-bits 1 1
+    ∷ (in-bits (d .version) 7
+    ∷ (in-bits 0 1
+    ∷ (in-bits (d .position) 3
+    ∷ (in-bits (d .total) 3
+    ∷ (in-bits (d .duplicate) 2
+    ∷ (in-bits (d .counter) 8
+    ∷ (in-bits (d .country) 10
+    ∷ (in-bits (d .group) 14
+    ∷ (in-bits (d .link) 1
+    ∷ (in-bits 44 8
+    ∷ (in-bits (d .direction) 2
+    ∷ (in-bits 48 13
+    ∷ (in-bits 13 9
+    ∷ (in-bits (d .first) 8
+    ∷ (in-bits (d .second) 8
+    ∷ (in-bits 255 8
+    ∷ []))))))))))))))))
+
+-- a value fits the bits that it takes
+abbrev pub fits : Field → Bool
+fits f = ltb (f .value) (2 ^ f .width)
+
+-- each value fits its field
+abbrev pub allFit : List Field → Bool
+allFit [] = true
+allFit (f ∷ fs) = fits f && allFit fs
+
+-- the bit at a place of fields that lie end to end, each with its highest bit first; behind them 104 ones, and then zeros
+abbrev pub laidBit : List Field → ℕ → ℕ
+laidBit [] i = cond (ltb i 104) 1 0
+laidBit (f ∷ fs) i = cond (ltb i (f .width)) (f .value / 2 ^ (f .width - 1 - i) % 2) (laidBit fs (i - f .width))
+
+-- the 27 bytes that these bits make
+unfoldable pub laidBytes : List Field → List ℕ
+laidBytes fs = map (λ k. number (laidBit fs) (8 * k) 8) (counting 0 27)

@@ -22,9 +22,19 @@ use Rattle.balise.specs.declared.packet.Found.{Found}
 use Rattle.balise.specs.declared.packet.Found.the-variants.{End, Other, Tbl1}
 use Rattle.balise.specs.declared.packet.Tbl1Packet.{Tbl1Packet}
 
+-- the directions, each at the place of its Q_DIR
+abbrev pub directions : List Direction
+directions = Reverse ∷ (Nominal ∷ (Both ∷ []))
+
 -- the direction that Q_DIR names
 abbrev pub directionOf : ℕ → Option Direction
-directionOf n = nth (Reverse ∷ (Nominal ∷ (Both ∷ []))) n
+directionOf n = nth directions n
+
+-- the Q_DIR that names a direction
+abbrev pub directionValue : Direction → ℕ
+directionValue Reverse = 0
+directionValue Nominal = 1
+directionValue Both = 2
 
 -- a TBL1+ packet of a direction and two digits, at the bit `at`; refused where a digit is above ten
 abbrev pub codePacket : Direction → Option Digit → Option Digit → ℕ → Result Found PacketFault

@@ -1,1 +1,10 @@
+pub mod Cuts
+pub mod FormParts
+pub mod FormWrites
+pub mod Inverse
 pub mod Laying
+pub mod Numbers
+pub mod ReadingBack
+pub mod Relaying
+pub mod Tables
+pub mod WrittenReads

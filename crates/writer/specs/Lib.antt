@@ -1,3 +1,4 @@
 pub mod Drafts
 pub mod Layouts
+pub mod RoundTrip
 pub mod Writing

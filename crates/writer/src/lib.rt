@@ -6,4 +6,5 @@ mod writing;
 
 pub use draft::Draft;
 pub use faults::WriteFault;
+pub use writing::worked_example;
 pub use writing::write;

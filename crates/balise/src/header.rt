@@ -31,7 +31,7 @@ pub struct Header {
 
 impl Header {
     /// The fields as they stand in the telegram.
-    pub fn read(telegram: &[u8]) -> Header
+    pub(crate) fn read(telegram: &[u8]) -> Header
         ensures { λ r. ⌜ r ≡ headerIn (now (telegram .entry)) ⌝ }
     {
         let mut reader = BitReader::new(telegram, 0);
@@ -50,7 +50,7 @@ impl Header {
     }
 
     /// The header, unless a question concerns it: direction, version and media first, then the position in the group.
-    pub fn asked(self, plug: u8) -> Result<Header, HeaderFault>
+    pub(crate) fn asked(self, plug: u8) -> Result<Header, HeaderFault>
         ensures { λ r. ⌜ r ≡ headerAsked plug self ⌝ }
     {
         if self.updown != 1 {

@@ -1,7 +1,3 @@
-pub mod Bits
 pub mod Codes
+pub mod Directions
 pub mod Faults
-pub mod Headers
-pub mod Lists
-pub mod Packets
-pub mod Telegrams

@@ -4,7 +4,7 @@ use mathlib.Core.Bool.{Bool}
 use mathlib.Core.List.{List}
 use Rattle.std.specs.declared.result.Result.{Result}
 use Rattle.std.specs.declared.result.Result.the-variants.{Ok, Err}
-use Rattle.balise.specs.Telegrams.{Opened, frameOf, acceptedOf, packetsIn, ofHeader}
+use Rattle.telegram.specs.Telegrams.{Opened, frameOf, acceptedOf, packetsIn, ofHeader}
 use Rattle.balise.specs.declared.faults.FrameFault.{FrameFault}
 use Rattle.balise.specs.declared.faults.HeaderFault.{HeaderFault}
 use Rattle.balise.specs.declared.faults.HeaderFault.the-variants.{Packet}

@@ -1,10 +1,10 @@
 // A telegram heard from its bytes on.
 ghost use mathlib.Core.Path.{_≡_};
-ghost use Rattle.balise.specs.Telegrams.{acceptedOf};
+ghost use Rattle.telegram.specs.Telegrams.{acceptedOf};
 ghost use Rattle.group.specs.Receiving.{heardOpened, received};
 use crate::memory::Heard;
 use crate::memory::Memory;
-use balise::Frame;
+use telegram::Frame;
 use balise::FrameFault;
 use balise::FrameFromHeader;
 use balise::HeaderFault;

@@ -9,7 +9,7 @@ use lib.ListN.{length, getD}
 use Rattle.std.proofs.shelf.Counted.{getD-map-counting, length-map-counting}
 use Rattle.std.proofs.shelf.Tests.{and-parts, cond-true, cond-false, lt-ltb, le-ltb, ltb-true}
 use Rattle.std.specs.Iters.{counting}
-use Rattle.balise.specs.Bits.{bit, number, field}
+use Rattle.telegram.specs.Bits.{bit, number, field}
 use Rattle.writer.specs.Layouts.{fits, allFit, laidBit, laidBytes}
 use Rattle.writer.specs.declared.layout.Field.{Field}
 use Rattle.writer.proofs.Laying.{laid-below}

@@ -11,11 +11,12 @@ use Rattle.std.specs.declared.option.Option.{Option}
 use Rattle.std.specs.declared.option.Option.the-variants.{Some, None}
 use Rattle.std.specs.declared.result.Result.{Result}
 use Rattle.std.specs.declared.result.Result.the-variants.{Ok, Err}
-use Rattle.balise.specs.Bits.{field}
+use Rattle.telegram.specs.Bits.{field}
 use Rattle.balise.specs.Codes.{digitOf}
-use Rattle.balise.specs.Headers.{headerIn, headerAsked}
-use Rattle.balise.specs.Packets.{directionOf, codePacket, directedPacketIn, packetIn}
-use Rattle.balise.specs.Telegrams.{Reading, closedFrame, opened, packetsIn, readingWith, packetsRead, ofHeader, frameRead, acceptedOf, readingOf}
+use Rattle.telegram.specs.Headers.{headerIn, headerAsked}
+use Rattle.balise.specs.Directions.{directionOf}
+use Rattle.telegram.specs.Packets.{codePacket, directedPacketIn, packetIn}
+use Rattle.telegram.specs.Telegrams.{Reading, closedFrame, opened, packetsIn, readingWith, packetsRead, ofHeader, frameRead, acceptedOf, readingOf}
 use Rattle.balise.specs.declared.code.Digit.{Digit}
 use Rattle.balise.specs.declared.faults.FrameFault.{FrameFault}
 use Rattle.balise.specs.declared.faults.FrameFault.the-variants.{Length, Closing}
@@ -23,8 +24,8 @@ use Rattle.balise.specs.declared.faults.HeaderFault.{HeaderFault}
 use Rattle.balise.specs.declared.faults.PacketFault.{PacketFault}
 use Rattle.balise.specs.declared.header.Header.{Header}
 use Rattle.balise.specs.declared.packet.Direction.{Direction}
-use Rattle.balise.specs.declared.packet.Found.{Found}
-use Rattle.balise.specs.declared.packet.Found.the-variants.{End, Other, Tbl1}
+use Rattle.telegram.specs.declared.packet.Found.{Found}
+use Rattle.telegram.specs.declared.packet.Found.the-variants.{End, Other, Tbl1}
 use Rattle.balise.specs.declared.packet.Tbl1Packet.{Tbl1Packet}
 use Rattle.writer.proofs.Inverse.{err-ok, ok-same, went-then, went-else}
 

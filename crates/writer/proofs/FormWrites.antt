@@ -9,12 +9,12 @@ use lib.Dec.{eqb, ltb}
 use lib.ListN.{length, getD}
 use Rattle.std.proofs.shelf.Tests.{cases-lt, cond-true, cond-false, lt-ltb, le-ltb, ne-eqb, or-from}
 use Rattle.std.specs.declared.result.Result.the-variants.{Ok}
-use Rattle.balise.proofs.Fields.{bit-below}
-use Rattle.balise.specs.Bits.{bit, number, field}
+use Rattle.telegram.proofs.Fields.{bit-below}
+use Rattle.telegram.specs.Bits.{bit, number, field}
 use Rattle.balise.specs.Codes.{digits, valueOf}
-use Rattle.balise.specs.Headers.{headerIn}
-use Rattle.balise.specs.Packets.{directions, directionValue}
-use Rattle.balise.specs.Telegrams.{Reading}
+use Rattle.telegram.specs.Headers.{headerIn}
+use Rattle.balise.specs.Directions.{directions, directionValue}
+use Rattle.telegram.specs.Telegrams.{Reading}
 use Rattle.balise.specs.declared.code.Digit.the-variants.{Zero}
 use Rattle.balise.specs.declared.header.Header.{Header}
 use Rattle.balise.specs.declared.packet.Direction.the-variants.{Reverse}

@@ -13,8 +13,8 @@ use Rattle.std.proofs.shelf.Counted.{length-map-counting, map-counting-more}
 use Rattle.std.proofs.shelf.Lists.{at-drop-more, at-drop-all, drop-more, set-at}
 use Rattle.std.specs.Iters.{counting}
 use Rattle.std.proofs.shelf.Tests.{cases-lt, cond-both, cond-true, cond-false, eq-eqb, ne-eqb, le-leb, lt-ltb, le-ltb}
-use Rattle.balise.proofs.Fields.{number-below}
-use Rattle.balise.specs.Bits.{number}
+use Rattle.telegram.proofs.Fields.{number-below}
+use Rattle.telegram.specs.Bits.{number}
 use Rattle.writer.specs.Layouts.{fits, allFit, laidBit}
 use Rattle.writer.specs.declared.layout.Field.{Field}
 

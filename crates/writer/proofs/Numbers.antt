@@ -7,8 +7,8 @@ use native.Mathlib.Omega.{arith}
 use lib.Pow.{pow-mono}
 use Rattle.std.proofs.shelf.Bits.{div-below, pow-pos, shr-shr, div-mul-add, mod-mul-add}
 use Rattle.std.proofs.shelf.Tests.{cases-eq}
-use Rattle.balise.proofs.Fields.{number-below}
-use Rattle.balise.specs.Bits.{number}
+use Rattle.telegram.proofs.Fields.{number-below}
+use Rattle.telegram.specs.Bits.{number}
 
 -- equal bits make equal numbers
 pub number-same : (f g : ℕ → ℕ) (a b w : ℕ) → ((i : ℕ) → i < w → f (a + i) ≡ g (b + i)) → number f a w ≡ number g b w

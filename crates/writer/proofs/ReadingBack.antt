@@ -11,7 +11,7 @@ use Rattle.std.proofs.shelf.Tests.{eqb-false, ltb-false, or-parts}
 use Rattle.std.specs.declared.option.Option.the-variants.{Some}
 use Rattle.std.specs.declared.result.Result.{Result}
 use Rattle.std.specs.declared.result.Result.the-variants.{Ok, Err}
-use Rattle.balise.specs.Bits.{field}
+use Rattle.telegram.specs.Bits.{field}
 use Rattle.writer.specs.Drafts.{asked}
 use Rattle.writer.specs.Layouts.{layout, allFit, laidBytes}
 use Rattle.writer.specs.declared.draft.Draft.{Draft}

@@ -8,8 +8,8 @@ use native.Mathlib.Omega.{arith}
 use lib.ListN.{length, getD}
 use Rattle.std.proofs.shelf.Counted.{fill-by-all}
 use Rattle.std.proofs.shelf.Tests.{and-from, cases-lt, cond-true, cond-false, lt-ltb, le-ltb}
-use Rattle.balise.proofs.Fields.{bit-below, number-below}
-use Rattle.balise.specs.Bits.{bit, number, field}
+use Rattle.telegram.proofs.Fields.{bit-below, number-below}
+use Rattle.telegram.specs.Bits.{bit, number, field}
 use Rattle.writer.specs.Layouts.{fits, allFit, laidBit, laidBytes}
 use Rattle.writer.specs.declared.layout.Field.{Field}
 use Rattle.writer.proofs.Cuts.{widths, values, total, numbers, cut}

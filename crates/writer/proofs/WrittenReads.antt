@@ -13,11 +13,12 @@ use Rattle.std.specs.declared.option.Option.{Option}
 use Rattle.std.specs.declared.option.Option.the-variants.{Some, None}
 use Rattle.std.specs.declared.result.Result.{Result}
 use Rattle.std.specs.declared.result.Result.the-variants.{Ok, Err}
-use Rattle.balise.specs.Bits.{field}
+use Rattle.telegram.specs.Bits.{field}
 use Rattle.balise.specs.Codes.{digits, digitOf}
-use Rattle.balise.specs.Headers.{headerIn, headerAsked}
-use Rattle.balise.specs.Packets.{directions, directionOf, codePacket, directedPacketIn, userPacketIn, packetIn, before, packetsFrom}
-use Rattle.balise.specs.Telegrams.{telegramBits, frameOf, opened, packetsIn, readingWith, packetsRead, ofHeader, frameRead, readingOf}
+use Rattle.telegram.specs.Headers.{headerIn, headerAsked}
+use Rattle.balise.specs.Directions.{directions, directionOf}
+use Rattle.telegram.specs.Packets.{codePacket, directedPacketIn, userPacketIn, packetIn, before, packetsFrom}
+use Rattle.telegram.specs.Telegrams.{telegramBits, frameOf, opened, packetsIn, readingWith, packetsRead, ofHeader, frameRead, readingOf}
 use Rattle.balise.specs.declared.code.Digit.{Digit}
 use Rattle.balise.specs.declared.code.Digit.the-variants.{Zero}
 use Rattle.balise.specs.declared.faults.FrameFault.{FrameFault}
@@ -26,11 +27,11 @@ use Rattle.balise.specs.declared.faults.PacketFault.{PacketFault}
 use Rattle.balise.specs.declared.header.Header.{Header}
 use Rattle.balise.specs.declared.packet.Direction.{Direction}
 use Rattle.balise.specs.declared.packet.Direction.the-variants.{Reverse}
-use Rattle.balise.specs.declared.packet.Found.{Found}
-use Rattle.balise.specs.declared.packet.Found.the-variants.{End, Tbl1}
+use Rattle.telegram.specs.declared.packet.Found.{Found}
+use Rattle.telegram.specs.declared.packet.Found.the-variants.{End, Tbl1}
 use Rattle.balise.specs.declared.packet.Tbl1Packet.{Tbl1Packet}
-use Rattle.balise.proofs.Fields.{field-below}
-use Rattle.balise.proofs.Packets.{packet-44, packets-found}
+use Rattle.telegram.proofs.Fields.{field-below}
+use Rattle.telegram.proofs.Packets.{packet-44, packets-found}
 use Rattle.writer.specs.Drafts.{asked}
 use Rattle.writer.specs.Layouts.{layout}
 use Rattle.writer.specs.RoundTrip.{draftHeader, draftPacket, draftReading, ReadsBack}

@@ -4,7 +4,7 @@ use lib.Dec.{ltb}
 use mathlib.Core.Bool.{Bool, true, cond, _&&_}
 use mathlib.Core.List.{List, [], _∷_, map}
 use Rattle.std.specs.Iters.{counting}
-use Rattle.balise.specs.Bits.{number}
+use Rattle.telegram.specs.Bits.{number}
 use Rattle.writer.specs.declared.draft.Draft.{Draft}
 use Rattle.writer.specs.declared.layout.Field.{Field}
 

@@ -6,14 +6,15 @@ use mathlib.Core.List.{List, [], _∷_, _++_}
 use mathlib.Core.Path.{_≡_}
 use Rattle.std.specs.declared.result.Result.{Result}
 use Rattle.std.specs.declared.result.Result.the-variants.{Ok}
-use Rattle.balise.specs.Bits.{field}
+use Rattle.telegram.specs.Bits.{field}
 use Rattle.balise.specs.Codes.{digits, valueOf}
-use Rattle.balise.specs.Packets.{directions, directionValue, packetIn}
-use Rattle.balise.specs.Telegrams.{Reading, readingOf}
+use Rattle.balise.specs.Directions.{directions, directionValue}
+use Rattle.telegram.specs.Packets.{packetIn}
+use Rattle.telegram.specs.Telegrams.{Reading, readingOf}
 use Rattle.balise.specs.declared.code.Digit.the-variants.{Zero}
 use Rattle.balise.specs.declared.header.Header.{Header}
 use Rattle.balise.specs.declared.packet.Direction.the-variants.{Reverse}
-use Rattle.balise.specs.declared.packet.Found.the-variants.{Tbl1}
+use Rattle.telegram.specs.declared.packet.Found.the-variants.{Tbl1}
 use Rattle.balise.specs.declared.packet.Tbl1Packet.{Tbl1Packet}
 use Rattle.writer.specs.Drafts.{asked}
 use Rattle.writer.specs.Writing.{written}

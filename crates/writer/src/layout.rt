@@ -1,7 +1,7 @@
 // How the values of a telegram lie in its bits.
 ghost use mathlib.Core.Path.{_≡_};
 ghost use Prim.Native.Nat.{_+_, _*_, _/_, _%_, _^_, _≤_};
-ghost use Rattle.balise.specs.Bits.{number};
+ghost use Rattle.telegram.specs.Bits.{number};
 ghost use Rattle.writer.specs.Layouts.{layout, fits, allFit, laidBit};
 use crate::draft::Draft;
 

@@ -1,5 +1,5 @@
 use mathlib.Core.Path.{_≡_}
-use Rattle.balise.specs.Bits.{number}
+use Rattle.telegram.specs.Bits.{number}
 use Rattle.writer.specs.Layouts.{laidBit}
 use Rattle.writer.proofs.layout.laid_byte.Given as given
 

@@ -4,7 +4,7 @@ use mathlib.Core.Path.{ap, ap₂, _∙_}
 use native.Mathlib.Omega.{arith}
 use Prim.Native.Nat.{ℕ, _*_}
 use lib.ListN.{set}
-use Rattle.balise.specs.Bits.{number}
+use Rattle.telegram.specs.Bits.{number}
 use Rattle.writer.specs.Layouts.{laidBit, laidBytes}
 use Rattle.writer.proofs.Laying.{filled-more}
 use Rattle.writer.proofs.writing.fill.Needs as need

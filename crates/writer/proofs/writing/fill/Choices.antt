@@ -3,7 +3,7 @@ use mathlib.Core.List.{_++_, map}
 use Prim.Native.Nat.{_*_}
 use lib.ListN.{drop}
 use Rattle.std.specs.Iters.{counting}
-use Rattle.balise.specs.Bits.{number}
+use Rattle.telegram.specs.Bits.{number}
 use Rattle.writer.specs.Layouts.{laidBit}
 use Rattle.writer.proofs.writing.fill.Given as given
 

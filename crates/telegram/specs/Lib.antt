@@ -1,0 +1,5 @@
+pub mod Bits
+pub mod Headers
+pub mod Lists
+pub mod Packets
+pub mod Telegrams

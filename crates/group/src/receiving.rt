@@ -4,11 +4,11 @@ ghost use Rattle.telegram.specs.Telegrams.{acceptedOf};
 ghost use Rattle.group.specs.Receiving.{heardOpened, received};
 use crate::memory::Heard;
 use crate::memory::Memory;
-use telegram::Frame;
 use balise::FrameFault;
 use balise::FrameFromHeader;
 use balise::HeaderFault;
 use balise::HeaderFromPacket;
+use telegram::Frame;
 
 /// A frame is heard: its header accepted, the group asked, its packets read.
 fn hear_frame(memory: Memory, frame: Frame<'_>, plug: u8) -> Result<Heard, HeaderFault>

@@ -5,18 +5,18 @@ ghost use lib.Dec.{eqb};
 ghost use Rattle.telegram.specs.Bits.{field};
 ghost use Rattle.telegram.specs.Telegrams.{telegramBits, frameOf, framed, acceptedOf, accepted, packetsIn, listed, readingOf, told, packetsRead, toldInHeader};
 use crate::bits::BitReader;
-use balise::FrameFault;
-use balise::FrameFromHeader;
-use balise::HeaderFault;
-use balise::HeaderFromPacket;
-use balise::PacketFault;
 use crate::header::ask_header;
 use crate::header::read_header;
-use balise::Header;
 use crate::list::PacketList;
 use crate::packet::Found;
 use crate::packet::TBL1_BITS;
 use crate::packet::read_packet;
+use balise::FrameFault;
+use balise::FrameFromHeader;
+use balise::Header;
+use balise::HeaderFault;
+use balise::HeaderFromPacket;
+use balise::PacketFault;
 
 /// A telegram whose length, closing bits and CRC are right.
 #[derive(Clone, Copy)]

@@ -9,29 +9,29 @@ use Rattle.writer.specs.declared.draft.Draft.{Draft}
 use Rattle.writer.specs.declared.layout.Field.{Field}
 
 -- a value in so many bits
-abbrev pub in-bits : ℕ → ℕ → Field
-in-bits v w = record { value = v; width = w }
+abbrev pub inBits : ℕ → ℕ → Field
+inBits v w = record { value = v; width = w }
 
 -- header, TBL1+ packet and packet 255, field by field
 unfoldable pub layout : Draft → List Field
 layout d =
-    in-bits 1 1
-    ∷ (in-bits (d .version) 7
-    ∷ (in-bits 0 1
-    ∷ (in-bits (d .position) 3
-    ∷ (in-bits (d .total) 3
-    ∷ (in-bits (d .duplicate) 2
-    ∷ (in-bits (d .counter) 8
-    ∷ (in-bits (d .country) 10
-    ∷ (in-bits (d .group) 14
-    ∷ (in-bits (d .link) 1
-    ∷ (in-bits 44 8
-    ∷ (in-bits (d .direction) 2
-    ∷ (in-bits 48 13
-    ∷ (in-bits 13 9
-    ∷ (in-bits (d .first) 8
-    ∷ (in-bits (d .second) 8
-    ∷ (in-bits 255 8
+    inBits 1 1
+    ∷ (inBits (d .version) 7
+    ∷ (inBits 0 1
+    ∷ (inBits (d .position) 3
+    ∷ (inBits (d .total) 3
+    ∷ (inBits (d .duplicate) 2
+    ∷ (inBits (d .counter) 8
+    ∷ (inBits (d .country) 10
+    ∷ (inBits (d .group) 14
+    ∷ (inBits (d .link) 1
+    ∷ (inBits 44 8
+    ∷ (inBits (d .direction) 2
+    ∷ (inBits 48 13
+    ∷ (inBits 13 9
+    ∷ (inBits (d .first) 8
+    ∷ (inBits (d .second) 8
+    ∷ (inBits 255 8
     ∷ []))))))))))))))))
 
 -- a value fits the bits that it takes

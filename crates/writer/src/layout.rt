@@ -2,7 +2,7 @@
 ghost use mathlib.Core.Path.{_≡_};
 ghost use Prim.Native.Nat.{_+_, _*_, _/_, _%_, _^_, _≤_};
 ghost use Rattle.telegram.specs.Bits.{number};
-ghost use Rattle.writer.specs.Layouts.{layout, fits, allFit, laidBit};
+ghost use Rattle.writer.specs.Layouts.{inBits, layout, fits, allFit, laidBit};
 use crate::draft::Draft;
 
 /// A value, and the bits that it takes.
@@ -12,74 +12,36 @@ pub struct Field {
     pub width: usize,
 }
 
+/// A value in so many bits.
+fn in_bits(value: u16, width: usize) -> Field
+    ensures { λ r. ⌜ r ≡ inBits value width ⌝ }
+{
+    Field { value, width }
+}
+
 impl Draft {
     /// The fields of the telegram in their order, up to the packet 255.
     pub(crate) fn layout(self) -> [Field; 17]
         ensures { λ r. ⌜ r ≡ layout self ⌝ }
     {
         [
-            Field { value: 1, width: 1 },
-            Field {
-                value: self.version,
-                width: 7,
-            },
-            Field { value: 0, width: 1 },
-            Field {
-                value: self.position,
-                width: 3,
-            },
-            Field {
-                value: self.total,
-                width: 3,
-            },
-            Field {
-                value: self.duplicate,
-                width: 2,
-            },
-            Field {
-                value: self.counter,
-                width: 8,
-            },
-            Field {
-                value: self.country,
-                width: 10,
-            },
-            Field {
-                value: self.group,
-                width: 14,
-            },
-            Field {
-                value: self.link,
-                width: 1,
-            },
-            Field {
-                value: 44,
-                width: 8,
-            },
-            Field {
-                value: self.direction,
-                width: 2,
-            },
-            Field {
-                value: 48,
-                width: 13,
-            },
-            Field {
-                value: 13,
-                width: 9,
-            },
-            Field {
-                value: self.first,
-                width: 8,
-            },
-            Field {
-                value: self.second,
-                width: 8,
-            },
-            Field {
-                value: 255,
-                width: 8,
-            },
+            in_bits(1, 1),
+            in_bits(self.version, 7),
+            in_bits(0, 1),
+            in_bits(self.position, 3),
+            in_bits(self.total, 3),
+            in_bits(self.duplicate, 2),
+            in_bits(self.counter, 8),
+            in_bits(self.country, 10),
+            in_bits(self.group, 14),
+            in_bits(self.link, 1),
+            in_bits(44, 8),
+            in_bits(self.direction, 2),
+            in_bits(48, 13),
+            in_bits(13, 9),
+            in_bits(self.first, 8),
+            in_bits(self.second, 8),
+            in_bits(255, 8),
         ]
     }
 }

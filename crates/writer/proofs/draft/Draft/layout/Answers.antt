@@ -1,7 +1,6 @@
-use mathlib.Core.Path.{refl}
 use Rattle.writer.specs.Layouts.{layout}
 use Rattle.writer.proofs.draft.Draft.layout.Needs as need
 
 pub returns : need.returns
 unfolding layout
-returns c = refl
+returns c = cc

@@ -1,0 +1,4 @@
+pub mod Events
+pub mod Panels
+pub mod Records
+pub mod Times

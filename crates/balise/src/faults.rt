@@ -105,7 +105,7 @@ impl HeaderFault {
             HeaderFault::NoTotal => (8, 12),
             HeaderFault::Position => (8, 9),
             HeaderFault::OtherTotal => (9, 12),
-            HeaderFault::Packet(fault) => return fault.refusal(),
+            HeaderFault::Packet(packet) => return packet.refusal(),
         };
         Refusal {
             number,
@@ -123,7 +123,7 @@ impl FrameFault {
         let number = match self {
             FrameFault::Length | FrameFault::Closing => 5,
             FrameFault::Crc => 6,
-            FrameFault::Header(fault) => return fault.refusal(),
+            FrameFault::Header(header) => return header.refusal(),
         };
         Refusal {
             number,

@@ -1,5 +1,6 @@
 #!/usr/bin/env bash
-# Compares the stored test lines and answers of bench, and the examples, with the outside reader.
+# Compares the stored test lines and answers of bench and linebench, and the examples, with the
+# outside reader.
 set -euo pipefail
 cd "$(dirname "${BASH_SOURCE[0]}")/.."
 export PYTHONDONTWRITEBYTECODE=1
@@ -24,6 +25,12 @@ compare "test lines" crates/bench/stdin "$made/stdin"
 
 python3 outside/bench_reader.py < crates/bench/stdin > "$made/stdout"
 compare "answers to the test lines" crates/bench/stdout "$made/stdout"
+
+python3 outside/make_line_vectors.py "$made/line_stdin" > "$made/line_counts"
+compare "test lines of linebench" crates/linebench/stdin "$made/line_stdin"
+
+python3 outside/linebench_reader.py < crates/linebench/stdin > "$made/line_stdout"
+compare "answers to the test lines of linebench" crates/linebench/stdout "$made/line_stdout"
 
 for example in examples/*.bench; do
     python3 outside/bench_reader.py < "$example" > "$made/answers"

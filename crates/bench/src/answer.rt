@@ -8,7 +8,6 @@ use crate::digits::travel_letter;
 use balise::Code;
 use balise::Header;
 use balise::Tbl1Packet;
-use telegram::Telegram;
 use group::GroupId;
 use group::Heard;
 use group::Memory;
@@ -16,6 +15,7 @@ use group::OpenGroup;
 use refusal::Refusal;
 use std::fmt;
 use std::fmt::Formatter;
+use telegram::Telegram;
 
 /// The answer to a line.
 #[derive(Clone, Copy)]
@@ -57,26 +57,48 @@ pub impl fmt::Display for Answer as AnswerDisplay {
     fn fmt<W: fmt::Write>(&self, f: &mut Formatter<W>) -> fmt::Result {
         match self {
             Answer::Written(telegram) => show_bytes(telegram, f),
-            Answer::Reading(telegram) => {
-                show_header(&telegram.header, f)?;
-                show_packets(telegram.packets.as_slice(), f)
-            }
+            Answer::Reading(telegram) => show_reading(telegram, f),
             Answer::Open(group) => show_open(group, f),
-            Answer::Closed { id, code } => {
-                write!(f, "C,{},{},", id.country, id.group)?;
-                show_stored(*code, f)
-            }
-            Answer::PassedOver(id) => write!(f, "P,{},{}", id.country, id.group),
+            Answer::Closed { id, code } => show_closed(*id, *code, f),
+            Answer::PassedOver(id) => show_group('P', *id, f),
             Answer::NoGroup => f.write_char('F'),
-            Answer::Refused(refusal) => write!(
-                f,
-                "E,{},{},{}",
-                refusal.number,
-                refusal.place,
-                refusal.layer.name()
-            ),
+            Answer::Refused(refusal) => show_refusal(*refusal, f),
         }
     }
+}
+
+/// Number, place and layer.
+fn show_refusal<W: fmt::Write>(refusal: Refusal, f: &mut Formatter<W>) -> fmt::Result {
+    let Refusal {
+        number,
+        place,
+        layer,
+    } = refusal;
+    write!(f, "E,{number},{place},")?;
+    f.write_str(layer.name())
+}
+
+/// A letter, and the group's country and number.
+fn show_group<W: fmt::Write>(letter: char, id: GroupId, f: &mut Formatter<W>) -> fmt::Result {
+    let GroupId { country, group } = id;
+    f.write_char(letter)?;
+    write!(f, ",{country},{group}")
+}
+
+/// A group that closed.
+fn show_closed<W: fmt::Write>(
+    id: GroupId,
+    code: Option<Code>,
+    f: &mut Formatter<W>,
+) -> fmt::Result {
+    show_group('C', id, f)?;
+    show_stored(code, f)
+}
+
+/// Header and packets.
+fn show_reading<W: fmt::Write>(telegram: &Telegram, f: &mut Formatter<W>) -> fmt::Result {
+    show_header(&telegram.header, f)?;
+    show_packets(telegram.packets.as_slice(), f)
 }
 
 /// Two hexadecimal digits for each byte.
@@ -125,8 +147,9 @@ fn show_code<W: fmt::Write>(code: Code, f: &mut Formatter<W>) -> fmt::Result {
     f.write_char(digit_letter(code.second))
 }
 
-/// A code, if there is one.
+/// A comma and a code, if there is one.
 fn show_stored<W: fmt::Write>(code: Option<Code>, f: &mut Formatter<W>) -> fmt::Result {
+    f.write_char(',')?;
     match code {
         Some(code) => show_code(code, f),
         None => f.write_str("--"),
@@ -135,15 +158,11 @@ fn show_stored<W: fmt::Write>(code: Option<Code>, f: &mut Formatter<W>) -> fmt::
 
 /// An open group.
 fn show_open<W: fmt::Write>(group: &OpenGroup, f: &mut Formatter<W>) -> fmt::Result {
-    let id = group.id;
-    write!(
-        f,
-        "O,{},{},{},{},",
-        id.country, id.group, group.total, group.first
-    )?;
+    let total = group.total;
+    let first = group.first;
+    show_group('O', group.id, f)?;
+    write!(f, ",{total},{first},")?;
     f.write_char(travel_letter(group.travel))?;
-    f.write_char(',')?;
     show_stored(group.codes.nominal, f)?;
-    f.write_char(',')?;
     show_stored(group.codes.reverse, f)
 }

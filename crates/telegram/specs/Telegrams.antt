@@ -1,9 +1,10 @@
 -- A telegram from the antenna's bytes to its reading.
-use Prim.Native.Nat.{ℕ}
+use Prim.Native.Nat.{ℕ, _+_}
 use denote.Ref.{now}
 use lib.Dec.{eqb, ltb}
 use lib.ListN.{length}
 use mathlib.Core.Bool.{Bool, true, false, cond}
+use mathlib.Core.Path.{_≡_}
 use mathlib.Core.List.{List, [], _∷_, _++_}
 use Rattle.std.specs.declared.result.Result.{Result}
 use Rattle.std.specs.declared.result.Result.the-variants.{Ok, Err}
@@ -64,6 +65,10 @@ accepted (Err e) = Err e
 -- the TBL1+ packets of a telegram, from bit 50 on. Each packet has 23 bits at least, so there are fewer than 34
 abbrev pub packetsIn : List ℕ → Result (List Tbl1Packet) PacketFault
 packetsIn bytes = packetsFrom 34 bytes 50 (telegramBits (length bytes))
+
+-- the count never cuts a reading short: with more turns the same would be read
+abbrev pub EveryPacketRead : List ℕ → Type 0
+EveryPacketRead bytes = (more : ℕ) → packetsFrom (34 + more) bytes 50 (telegramBits (length bytes)) ≡ packetsIn bytes
 
 -- a list of packets as the packets that it holds
 abbrev pub listed : Result PacketList PacketFault → Result (List Tbl1Packet) PacketFault

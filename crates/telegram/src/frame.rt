@@ -3,7 +3,7 @@ ghost use mathlib.Core.Path.{_≡_};
 ghost use Prim.Native.Nat.{_*_, _≤_};
 ghost use lib.Dec.{eqb};
 ghost use Rattle.telegram.specs.Bits.{field};
-ghost use Rattle.telegram.specs.Telegrams.{telegramBits, frameOf, framed, acceptedOf, accepted, packetsIn, listed, readingOf, told, packetsRead, toldInHeader};
+ghost use Rattle.telegram.specs.Telegrams.{telegramBits, frameOf, framed, acceptedOf, accepted, packetsIn, EveryPacketRead, listed, readingOf, told, packetsRead, toldInHeader};
 use crate::bits::BitReader;
 use crate::header::ask_header;
 use crate::header::read_header;
@@ -102,8 +102,16 @@ impl Accepted<'_> {
         self.header
     }
 
-    /// The TBL1+ packets in their order.
+    /// The TBL1+ packets in their order. The count of turns leaves none out.
     pub fn packets(&self) -> Result<PacketList, PacketFault>
+        ensures value { λ r. ⌜ listed r ≡ packetsIn (now (now (self .entry) .bytes)) ⌝ }
+        ensures every { λ _. ⌜ EveryPacketRead (now (now (self .entry) .bytes)) ⌝ }
+    {
+        self.walk()
+    }
+
+    /// Goes from packet to packet up to the 255.
+    fn walk(&self) -> Result<PacketList, PacketFault>
         ensures { λ r. ⌜ listed r ≡ packetsIn (now (now (self .entry) .bytes)) ⌝ }
     {
         let end = telegram_bits(self.bytes.len());

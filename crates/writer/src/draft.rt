@@ -33,7 +33,7 @@ pub struct Draft {
 
 impl Draft {
     /// Whether a question concerns one of the values.
-    pub fn asked(self) -> Result<(), WriteFault>
+    pub(crate) fn asked(self) -> Result<(), WriteFault>
         ensures { λ r. ⌜ r ≡ asked self ⌝ }
     {
         if !all_fit(&self.layout()) {

@@ -3,7 +3,7 @@ use Prim.Native.Nat.{_+_, _-_, _*_, _≤_}
 use Rattle.telegram.specs.Lists.{packetsOf}
 use Rattle.telegram.specs.Packets.{packetsFrom}
 use Rattle.telegram.proofs.Packets.{behind}
-use Rattle.telegram.proofs.frame.Accepted.packets.Given as given
+use Rattle.telegram.proofs.frame.Accepted.walk.Given as given
 
 -- what was listed and what is still to come make the whole; each packet listed took 48 bits
 abbrev pub Inv-loop-turn : given.InvT-loop-turn

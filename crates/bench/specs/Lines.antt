@@ -1,15 +1,10 @@
--- The line that is being read.
-use lib.ListN.{length, take}
+-- The line that a command stands in.
+use lib.ListN.{length}
 use mathlib.Core.List.{List}
 use Prim.Native.Nat.{ℕ, _≤_}
 use Rattle.bench.specs.declared.cursor.Illegal.{Illegal}
-use Rattle.bench.specs.declared.line.Line.{Line}
 use Rattle.std.specs.declared.result.Result.{Result}
 use Rattle.std.specs.declared.result.Result.the-variants.{Ok, Err}
-
--- what is kept of the line
-abbrev pub kept : Line → List ℕ
-kept l = take (l .len) (l .bytes)
 
 -- the place of an illegal line is one of its bytes or its length
 abbrev pub InLine : {X : Type 0} → List ℕ → Result X Illegal → Type 0

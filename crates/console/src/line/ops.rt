@@ -2,11 +2,11 @@ ghost use mathlib.Core.Path.{_≡_};
 ghost use mathlib.Core.List.{[], _∷_, _++_};
 ghost use lib.Dec.{eqb};
 ghost use lib.ListN.{length, take};
-ghost use Rattle.bench.specs.Lines.{kept};
+ghost use Rattle.console.specs.Lines.{kept};
 use super::Line;
 
 /// How many bytes of a line are kept.
-const KEPT: usize = 217;
+const KEPT: usize = 256;
 
 impl Line {
     /// A line of which no byte has come yet.
@@ -21,7 +21,7 @@ impl Line {
 
     /// One byte more of the line.
     pub fn push(&mut self, byte: u8)
-        ensures { λ _. ⌜ kept (now (self .exit)) ≡ take 217 (kept (now (self .entry)) ++ byte ∷ []) ⌝ }
+        ensures { λ _. ⌜ kept (now (self .exit)) ≡ take 256 (kept (now (self .entry)) ++ byte ∷ []) ⌝ }
     {
         if self.len < KEPT {
             self.bytes[self.len] = byte;

@@ -1,6 +1,6 @@
 use native.Mathlib.Omega.{arith}
-use Rattle.bench.proofs.Keeping.{keeps, throws}
-use Rattle.bench.proofs.line.Line.push.Needs as need
+use Rattle.console.proofs.Keeping.{keeps, throws}
+use Rattle.console.proofs.line.Line.push.Needs as need
 
 pub returns-then-self-lt-KEPT : need.returns-then-self-lt-KEPT
 returns-then-self-lt-KEPT c = keeps (c .args .self .now .bytes) (c .args .self .now .len) (c .args .byte) (omega arith) (omega arith)

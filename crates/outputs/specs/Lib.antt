@@ -1,0 +1,3 @@
+pub mod Maintenance
+pub mod Recorders
+pub mod Valves

@@ -1,0 +1,4 @@
+pub mod Appending
+pub mod Keeping
+pub mod Texts
+pub mod Words

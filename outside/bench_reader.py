@@ -4,53 +4,22 @@ The legal lines are described by what each field may hold. The place of an illeg
 by asking of its beginnings, the shortest first, whether any legal line begins so.
 """
 
-import re
 import sys
-from typing import BinaryIO, Iterator, Optional
+from typing import Optional
 
+from dialogue import serve
+from fields import MOST_PAIRS, Number, Pairs
 from groups import ClosedGroup, Memory, OpenGroup, hear_telegram
 from telegrams import (
     BOTH, NOMINAL, REVERSE, SHORT_BYTES, Refusal, Written, read_telegram, write_telegram,
 )
 
-NUMBER_LIMIT, PLUG_LIMIT, MOST_PAIRS = 65535, 127, 104
+NUMBER_LIMIT, PLUG_LIMIT = 65535, 127
 LONGEST_LEGAL_LINE = len("R,127,1,") + 2 * MOST_PAIRS
-CHUNK = 4096
 
 DIRECTION_LETTERS = {NOMINAL: "N", REVERSE: "R", BOTH: "B", None: "-"}
 
-
-# What the fields of a line may hold. A field is either whole, or at least the beginning of one.
-
-class Number:
-    """A decimal number with a limit, of which every beginning with a digit is a number too."""
-
-    def __init__(self, limit: int):
-        self.limit = limit
-
-    def is_whole(self, text: bytes) -> bool:
-        """Whether this is a legal number of this field."""
-        return (re.fullmatch(rb"0|[1-9][0-9]{0,4}", text) is not None
-                and int(text) <= self.limit)
-
-    def is_beginning(self, text: bytes) -> bool:
-        """Whether a legal number of this field begins so."""
-        return text == b"" or self.is_whole(text)
-
-
-class Hex:
-    """0 to 104 pairs of hexadecimal digits in capitals."""
-
-    def is_whole(self, text: bytes) -> bool:
-        """Whether these are whole pairs."""
-        return self.is_beginning(text) and len(text) % 2 == 0
-
-    def is_beginning(self, text: bytes) -> bool:
-        """Whether these are pairs, the last one perhaps a half."""
-        return len(text) <= 2 * MOST_PAIRS and re.fullmatch(rb"[0-9A-F]*", text) is not None
-
-
-TELEGRAM_FIELDS = (Number(PLUG_LIMIT), Number(1), Hex())
+TELEGRAM_FIELDS = (Number(PLUG_LIMIT), Number(1), Pairs())
 FIELDS_OF_COMMAND = {
     b"W": (Number(NUMBER_LIMIT),) * 11,
     b"R": TELEGRAM_FIELDS,
@@ -154,28 +123,7 @@ class Bench:
             return f"E,{refusal.number},{refusal.place},{refusal.layer}"
 
 
-def lines_of(source: BinaryIO) -> Iterator[bytes]:
-    """The lines without their byte 10. Of an overlong line only its beginning is kept:
-    it is illegal, and its place is among the bytes kept."""
-    while chunk := source.readline(CHUNK):
-        line = chunk.removesuffix(b"\n")[:LONGEST_LEGAL_LINE + 1]
-        while chunk and not chunk.endswith(b"\n"):
-            chunk = source.readline(CHUNK)
-        yield line
-
-
-def main() -> int:
-    """Answer standard input line by line."""
-    bench = Bench()
-    try:
-        with open(1, "wb", closefd=False) as answers:
-            for line in lines_of(sys.stdin.buffer):
-                answers.write(bench.answer(line).encode("ascii") + b"\n")
-    except OSError as error:
-        print(f"bench_reader: {error}", file=sys.stderr)
-        return 1
-    return 0
-
-
 if __name__ == "__main__":
-    sys.exit(main())
+    bench = Bench()
+    sys.exit(serve("bench_reader", lambda line: bench.answer(line).encode("ascii"),
+                   LONGEST_LEGAL_LINE + 1))

@@ -4,14 +4,13 @@ python3 outside/linebench_reader.py < lines > answers
 """
 
 import sys
-from typing import BinaryIO, Iterator
 
+from dialogue import serve
 from lines import LONGEST_LEGAL_LINE, Event, read_event_line, read_strip_line, strip_line
 from telegrams import Refusal
 
 STRIP_MARK, EVENT_MARK = b"S", b"E"
 BYTES_KEPT = len(STRIP_MARK) + LONGEST_LEGAL_LINE + 1
-CHUNK = 4096
 
 
 def what_happens(event: Event) -> str:
@@ -42,27 +41,5 @@ def answer(line: bytes) -> bytes:
         return f"E,{refusal.number},{refusal.place},{refusal.layer}".encode("ascii")
 
 
-def lines_of(source: BinaryIO) -> Iterator[bytes]:
-    """The lines without their byte 10. Of an overlong line only its beginning is kept:
-    it is answered by that alone, since a place of it is among the bytes kept."""
-    while chunk := source.readline(CHUNK):
-        line = chunk.removesuffix(b"\n")[:BYTES_KEPT]
-        while chunk and not chunk.endswith(b"\n"):
-            chunk = source.readline(CHUNK)
-        yield line
-
-
-def main() -> int:
-    """Answer standard input line by line."""
-    try:
-        with open(1, "wb", closefd=False) as answers:
-            for line in lines_of(sys.stdin.buffer):
-                answers.write(answer(line) + b"\n")
-    except OSError as error:
-        print(f"linebench_reader: {error}", file=sys.stderr)
-        return 1
-    return 0
-
-
 if __name__ == "__main__":
-    sys.exit(main())
+    sys.exit(serve("linebench_reader", answer, BYTES_KEPT))

@@ -10,7 +10,7 @@ from line_vectors_illegal import (
     unmarked_lines,
 )
 from line_vectors_legal import event_lines, strip_lines
-from vector_parts import Dice
+from vector_parts import Dice, write_vectors
 
 SEED = 40_000
 LAST_LINE = b"E5,T,1,9"
@@ -35,19 +35,5 @@ def make_line_vectors() -> tuple[bytes, dict[str, int]]:
     return b"\n".join(lines), {kind: len(made) for kind, made in lines_of_kind.items()}
 
 
-def main() -> int:
-    """Write the lines to the path that is given."""
-    if len(sys.argv) != 2:
-        print("usage: python3 outside/make_line_vectors.py path", file=sys.stderr)
-        return 2
-    made, counts = make_line_vectors()
-    with open(sys.argv[1], "wb") as file:
-        file.write(made)
-    for kind, count in counts.items():
-        print(f"{count:6} {kind}")
-    print(f"{sum(counts.values()):6} lines, {len(made)} bytes")
-    return 0
-
-
 if __name__ == "__main__":
-    sys.exit(main())
+    sys.exit(write_vectors(*make_line_vectors()))

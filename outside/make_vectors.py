@@ -5,7 +5,7 @@ The lines are the same in every run. How many there are of each kind is printed.
 
 import sys
 
-from vector_parts import Dice
+from vector_parts import Dice, write_vectors
 from vectors_groups import group_lines
 from vectors_lines import illegal_lines, writer_lines
 from vectors_packets import packet_lines
@@ -31,19 +31,5 @@ def make_vectors() -> tuple[bytes, dict[str, int]]:
     return b"\n".join(lines), counts
 
 
-def main() -> int:
-    """Write the lines to the path that is given."""
-    if len(sys.argv) != 2:
-        print("usage: python3 outside/make_vectors.py path", file=sys.stderr)
-        return 2
-    made, counts = make_vectors()
-    with open(sys.argv[1], "wb") as file:
-        file.write(made)
-    for kind, count in counts.items():
-        print(f"{count:6} {kind}")
-    print(f"{sum(counts.values()):6} lines, {len(made)} bytes")
-    return 0
-
-
 if __name__ == "__main__":
-    sys.exit(main())
+    sys.exit(write_vectors(*make_vectors()))

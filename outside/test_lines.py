@@ -3,7 +3,8 @@
 import io
 import unittest
 
-from linebench_reader import answer, lines_of
+from dialogue import lines_of
+from linebench_reader import BYTES_KEPT, answer
 from lines import (
     EVENT_FORMS, STRIP_FORMS, Event, Record, illegal_place, read_event_line, read_strip_line,
     strip_line, write_strip_line,
@@ -129,13 +130,13 @@ class Linebench(unittest.TestCase):
             self.assertEqual(answer(line), expected, line)
 
     def test_cutting_into_lines(self):
-        self.assertEqual(list(lines_of(io.BytesIO(b""))), [])
-        self.assertEqual(list(lines_of(io.BytesIO(b"E\n\nS"))), [b"E", b"", b"S"])
-        self.assertEqual(list(lines_of(io.BytesIO(b"\n"))), [b""])
+        self.assertEqual(list(lines_of(io.BytesIO(b""), BYTES_KEPT)), [])
+        self.assertEqual(list(lines_of(io.BytesIO(b"E\n\nS"), BYTES_KEPT)), [b"E", b"", b"S"])
+        self.assertEqual(list(lines_of(io.BytesIO(b"\n"), BYTES_KEPT)), [b""])
         longest = b"E9999999999,T,1," + b"0" * 208
         for length in (1, 2, 4000, 4096, 9000):
             overlong = longest + b"0" * length
-            (line,) = lines_of(io.BytesIO(overlong + b"\n"))
+            (line,) = lines_of(io.BytesIO(overlong + b"\n"), BYTES_KEPT)
             self.assertEqual(answer(line), b"E,14,223,text")
             self.assertEqual(answer(overlong), b"E,14,223,text")
 

@@ -3,7 +3,8 @@
 import io
 import unittest
 
-from bench_reader import Bench, illegal_place, lines_of
+from bench_reader import Bench, LONGEST_LEGAL_LINE, illegal_place
+from dialogue import lines_of
 from telegrams import Refusal, Written, bytes_of_bits, read_telegram, write_telegram
 
 WORKED_BITS = ("1" "0010000" "0" "000" "001" "00" "11111111" "0000000001" "00000000000101" "0"
@@ -116,12 +117,12 @@ class Lines(unittest.TestCase):
             self.assertEqual(illegal_place(line), place, line)
 
     def test_cutting_into_lines(self):
-        self.assertEqual(list(lines_of(io.BytesIO(b""))), [])
-        self.assertEqual(list(lines_of(io.BytesIO(b"F\n\nF"))), [b"F", b"", b"F"])
-        self.assertEqual(list(lines_of(io.BytesIO(b"F\n"))), [b"F"])
+        self.assertEqual(list(lines_of(io.BytesIO(b""), LONGEST_LEGAL_LINE + 1)), [])
+        self.assertEqual(list(lines_of(io.BytesIO(b"F\n\nF"), LONGEST_LEGAL_LINE + 1)), [b"F", b"", b"F"])
+        self.assertEqual(list(lines_of(io.BytesIO(b"F\n"), LONGEST_LEGAL_LINE + 1)), [b"F"])
         for length in (217, 4095, 4096, 4097, 9000):
             overlong = io.BytesIO(b"Z" * length + b"\nF")
-            self.assertEqual(list(lines_of(overlong)), [b"Z" * 217, b"F"])
+            self.assertEqual(list(lines_of(overlong, LONGEST_LEGAL_LINE + 1)), [b"Z" * 217, b"F"])
 
 
 if __name__ == "__main__":

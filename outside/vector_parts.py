@@ -1,6 +1,7 @@
 """What the test lines are put together from: dice, headers, packets, frames and lines."""
 
 import random
+import sys
 
 from telegrams import (
     FIRST_PACKET_PLACE, FIXED_PART_BITS, PACKET_44, PACKET_255, TBL1_BITS,
@@ -132,3 +133,16 @@ def hear_line(row: bytes, plug: int = 127, crc: int = 1) -> bytes:
 def write_line(values) -> bytes:
     """A W line of eleven numbers."""
     return ("W," + ",".join(str(value) for value in values)).encode("ascii")
+
+
+def write_vectors(made: bytes, counts: dict[str, int]) -> int:
+    """Write the lines to the path that the program is given, and print how many of each kind."""
+    if len(sys.argv) != 2:
+        print(f"usage: python3 {sys.argv[0]} path", file=sys.stderr)
+        return 2
+    with open(sys.argv[1], "wb") as file:
+        file.write(made)
+    for kind, count in counts.items():
+        print(f"{count:6} {kind}")
+    print(f"{sum(counts.values()):6} lines, {len(made)} bytes")
+    return 0

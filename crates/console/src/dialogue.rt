@@ -50,8 +50,10 @@ impl<A: Answerer + Drop> Dialogue<A> {
         answers.write_char('\n')
     }
 
-    /// The input has ended, perhaps within a line.
-    pub fn end(&mut self, answers: &mut String) -> fmt::Result {
+    /// The input has ended, perhaps within a line. No line is begun any more.
+    pub fn end(&mut self, answers: &mut String) -> fmt::Result
+        ensures { λ _. ⌜ kept (now (self .exit) .line) ≡ [] ⌝ }
+    {
         if !self.line.is_empty() {
             self.take(LINE_END, answers)?;
         }

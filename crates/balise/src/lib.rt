@@ -1,4 +1,6 @@
 //! The words of a balise telegram: its header and codes, and what can be wrong with it.
+#![tactic(auto)]
+
 mod code;
 mod faults;
 mod header;

@@ -1,4 +1,6 @@
 //! The bench program: reads command lines, prints one answer line for each.
+#![tactic(auto)]
+
 mod answer;
 mod command;
 mod cursor;

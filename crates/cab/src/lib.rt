@@ -1,4 +1,6 @@
 //! The words of the cab: what happens to the unit, what its panel shows and what is recorded.
+#![tactic(auto)]
+
 mod event;
 mod panel;
 mod record;

@@ -1,4 +1,6 @@
 //! A program's dialogue: lines come from standard input, and each is answered by a line on standard output.
+#![tactic(auto)]
+
 mod dialogue;
 mod line;
 mod serving;

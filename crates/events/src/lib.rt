@@ -1,4 +1,6 @@
 //! Event lines as text, and their reader.
+#![tactic(auto)]
+
 mod line;
 mod parts;
 mod reader;

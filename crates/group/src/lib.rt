@@ -1,4 +1,6 @@
 //! Balise groups: what is remembered of the group that the train passes, and the code that its telegrams lead to.
+#![tactic(auto)]
+
 mod codes;
 mod memory;
 mod receiving;

@@ -1,4 +1,6 @@
 //! The bench of text lines: shows what strip lines and event lines read as.
+#![tactic(auto)]
+
 mod shown;
 mod transcript;
 

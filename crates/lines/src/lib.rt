@@ -1,4 +1,6 @@
 //! What is written down: lines of text, their writers and readers.
+#![tactic(auto)]
+
 mod faults;
 mod parts;
 mod puts;

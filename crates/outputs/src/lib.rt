@@ -1,4 +1,6 @@
 //! What the unit works: the emergency brake valve and the recorder, each behind a trait with several ends, and the maintenance store.
+#![tactic(auto)]
+
 mod braking;
 mod maintenance;
 mod recorder;

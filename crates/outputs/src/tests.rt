@@ -5,7 +5,7 @@ use crate::valve::Valve;
 use crate::valve::contacts::ContactPair;
 use crate::valve::word::OutputWord;
 use cab::{Brake, Kind, Lamp, Mode, Panel, Record, Time};
-use log::{Log, LogFault};
+use slot_log::{Log, LogFault};
 use std::test::Fail;
 
 fn tick() -> Record {

@@ -1,4 +1,6 @@
 //! What a refused call gives back, whatever refused it.
+#![tactic(auto)]
+
 ghost use Rattle.std.specs.Prelude.{◌≡◌};
 ghost use Rattle.refusal.specs.Refusals.{layer_name};
 

@@ -1,4 +1,6 @@
 //! The bench writer: a short telegram with one TBL1+ packet.
+#![tactic(auto)]
+
 mod draft;
 mod faults;
 mod layout;

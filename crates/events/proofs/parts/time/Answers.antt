@@ -5,8 +5,8 @@ use Rattle.events.proofs.parts.time.Goals as goal
 pub returns-then-line-eq0 : goal.returns-then-line-eq0
 returns-then-line-eq0 c = sym (number_over 9999999999 c.args.line.now 0 (omega arith))
 
-pub returns-in-default : goal.returns-in-default
-returns-in-default c = sym (number_stray 9999999999 c.args.line.now 0 (omega arith) c.in-default.ensures)
+pub returns-in_default : goal.returns-in_default
+returns-in_default c = sym (number_stray 9999999999 c.args.line.now 0 (omega arith) c.in_default.ensures)
 
 pub loop-place-init : goal.loop-place-init
 loop-place-init c = sym (number_opens 9999999999 c.args.line.now 0 c.in-Some.value (omega arith) c.in-Some.ensures)

@@ -9,6 +9,6 @@ returns-then-at-line c = record { value = sym (at_drop_all digit_in c.args.line.
 
 pub returns : goal.returns
 returns c = record {
-  value = c.digit-value.ensures.value ∙ sym (at_drop_more digit_in c.args.line.now c.args.at 0 c.if-at-line.false);
-  small = some_both c.digit-value.result 10 (c.args.at < length c.args.line.now) c.digit-value.ensures.small c.if-at-line.false;
+  value = c.digit_value.ensures.value ∙ sym (at_drop_more digit_in c.args.line.now c.args.at 0 c.if-at-line.false);
+  small = some_both c.digit_value.result 10 (c.args.at < length c.args.line.now) c.digit_value.ensures.small c.if-at-line.false;
 }

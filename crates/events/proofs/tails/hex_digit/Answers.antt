@@ -9,6 +9,6 @@ returns-then-at-line c = record { value = sym (at_drop_all hex_in c.args.line.no
 
 pub returns : goal.returns
 returns c = record {
-  value = c.hex-value.ensures.value ∙ sym (at_drop_more hex_in c.args.line.now c.args.at 0 c.if-at-line.false);
-  small = some_both c.hex-value.result 16 (c.args.at < length c.args.line.now) c.hex-value.ensures.small c.if-at-line.false;
+  value = c.hex_value.ensures.value ∙ sym (at_drop_more hex_in c.args.line.now c.args.at 0 c.if-at-line.false);
+  small = some_both c.hex_value.result 16 (c.args.at < length c.args.line.now) c.hex_value.ensures.small c.if-at-line.false;
 }

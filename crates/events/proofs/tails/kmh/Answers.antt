@@ -1,15 +1,15 @@
 use Rattle.events.proofs.Going.{one_digit, two_digits, three_digits}
 use Rattle.events.proofs.tails.kmh.Goals as goal
 
-pub returns-in-default : goal.returns-in-default
-returns-in-default c =
-    let e = one_digit c.args.first c.args.at c.args.line.now c.in-default.ensures.value in
+pub returns-in_default : goal.returns-in_default
+returns-in_default c =
+    let e = one_digit c.args.first c.args.at c.args.line.now c.in_default.ensures.value in
     let f = c.from-first.ensures in
     cc
 
-pub returns-in-default-digit : goal.returns-in-default-digit
-returns-in-default-digit c =
-    let e = two_digits c.args.first c.args.at c.in-Some.second c.args.line.now c.in-Some.ensures.value c.in-default-digit.ensures.value in
+pub returns-in_default-digit : goal.returns-in_default-digit
+returns-in_default-digit c =
+    let e = two_digits c.args.first c.args.at c.in-Some.second c.args.line.now c.in-Some.ensures.value c.in_default-digit.ensures.value in
     let f = c.from-first.ensures in
     let s = c.from.ensures in
     cc

@@ -36,8 +36,8 @@ returns-in-67 c = c.word-in-67.ensures ∙ sym (only button_text (Bac ∷ Bncv �
 pub returns-in-70 : goal.returns-in-70
 returns-in-70 c = c.word-in-70.ensures ∙ sym (only button_text (Bac ∷ Bncv ∷ Bcvr ∷ []) Bfc (Blj ∷ Blr ∷ []) (66 ∷ 70 ∷ []) (67 ∷ 44 ∷ []) c.args.line.now (drop (c.args.at + 2) c.args.line.now) c.args.at refl refl refl (two_here c.args.line.now c.args.at 66 70 c.if-at-line-2.false c.if-line-at-ne66.false c.in-70.is))
 
-pub returns-in-default : goal.returns-in-default
-returns-in-default c =
+pub returns-in_default : goal.returns-in_default
+returns-in_default c =
     let b = get_or c.args.line.now (c.args.at + 1) 0 in
     let n65 : eqb b 65 ≡ false = ne_eqb b 65 (λ e. omega arith) in
     let n78 : eqb b 78 ≡ false = ne_eqb b 78 (λ e. omega arith) in

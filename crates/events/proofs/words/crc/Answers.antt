@@ -14,8 +14,8 @@ returns-in-49 c = c.word.ensures ∙ sym (by-letter crc_text ([]) true (false �
 pub returns-in-48 : goal.returns-in-48
 returns-in-48 c = c.word-in-48.ensures ∙ sym (by-letter crc_text (true ∷ []) false ([]) 48 (44 ∷ []) c.args.line.now c.args.at refl refl refl c.if-at-line.false c.in-48.is)
 
-pub returns-in-default : goal.returns-in-default
-returns-in-default c =
+pub returns-in_default : goal.returns-in_default
+returns-in_default c =
     let b = get_or c.args.line.now c.args.at 0 in
     let n49 : eqb b 49 ≡ false = ne_eqb b 49 (λ e. omega arith) in
     let n48 : eqb b 48 ≡ false = ne_eqb b 48 (λ e. omega arith) in

@@ -27,8 +27,8 @@ returns-in-66 c = c.word-in-66.ensures ∙ sym (by-letter kind_text (Tick ∷ Sp
 pub returns-in-84 : goal.returns-in-84
 returns-in-84 c = c.word-in-84.ensures ∙ sym (by-letter kind_text (Tick ∷ Speed ∷ Pulse ∷ Lever ∷ Button ∷ []) Telegram ([]) 84 (44 ∷ []) c.args.line.now c.args.at refl refl refl c.if-at-line.false c.in-84.is)
 
-pub returns-in-default : goal.returns-in-default
-returns-in-default c =
+pub returns-in_default : goal.returns-in_default
+returns-in_default c =
     let b = get_or c.args.line.now c.args.at 0 in
     let n75 : eqb b 75 ≡ false = ne_eqb b 75 (λ e. omega arith) in
     let n83 : eqb b 83 ≡ false = ne_eqb b 83 (λ e. omega arith) in

@@ -18,8 +18,8 @@ returns-in-74 c = c.word.ensures ∙ sym (only button_text (Bac ∷ Bncv ∷ Bcv
 pub returns-in-82 : goal.returns-in-82
 returns-in-82 c = c.word-in-82.ensures ∙ sym (only button_text (Bac ∷ Bncv ∷ Bcvr ∷ Bfc ∷ Blj ∷ []) Blr [] (66 ∷ 76 ∷ 82 ∷ []) (44 ∷ []) c.args.line.now (drop (c.args.at + 3) c.args.line.now) c.args.at refl refl refl (three_here c.args.line.now c.args.at 66 76 82 c.if-at-line.false c.requires.1.0 c.requires.1.1 c.in-82.is))
 
-pub returns-in-default : goal.returns-in-default
-returns-in-default c =
+pub returns-in_default : goal.returns-in_default
+returns-in_default c =
     let b = get_or c.args.line.now (c.args.at + 2) 0 in
     let n74 : eqb b 74 ≡ false = ne_eqb b 74 (λ e. omega arith) in
     let n82 : eqb b 82 ≡ false = ne_eqb b 82 (λ e. omega arith) in

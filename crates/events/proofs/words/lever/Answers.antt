@@ -18,8 +18,8 @@ returns-in-78 c = sym (by-only-letter lever_text (Forward ∷ []) Neutral (Rever
 pub returns-in-82 : goal.returns-in-82
 returns-in-82 c = sym (by-only-letter lever_text (Forward ∷ Neutral ∷ []) Reverse ([]) 82 c.args.line.now c.args.at refl refl refl c.if-at-line.false c.in-82.is)
 
-pub returns-in-default : goal.returns-in-default
-returns-in-default c =
+pub returns-in_default : goal.returns-in_default
+returns-in_default c =
     let b = get_or c.args.line.now c.args.at 0 in
     let n70 : eqb b 70 ≡ false = ne_eqb b 70 (λ e. omega arith) in
     let n78 : eqb b 78 ≡ false = ne_eqb b 78 (λ e. omega arith) in

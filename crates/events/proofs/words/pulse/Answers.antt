@@ -15,8 +15,8 @@ returns-in-82 c = sym (by-only-letter pulse_text ([]) Restrictive (Clear ∷ [])
 pub returns-in-67 : goal.returns-in-67
 returns-in-67 c = sym (by-only-letter pulse_text (Restrictive ∷ []) Clear ([]) 67 c.args.line.now c.args.at refl refl refl c.if-at-line.false c.in-67.is)
 
-pub returns-in-default : goal.returns-in-default
-returns-in-default c =
+pub returns-in_default : goal.returns-in_default
+returns-in_default c =
     let b = get_or c.args.line.now c.args.at 0 in
     let n82 : eqb b 82 ≡ false = ne_eqb b 82 (λ e. omega arith) in
     let n67 : eqb b 67 ≡ false = ne_eqb b 67 (λ e. omega arith) in

@@ -5,8 +5,8 @@ use Rattle.lines.proofs.parts.number.Goals as goal
 pub returns-then-at-line : goal.returns-then-at-line
 returns-then-at-line c = sym (number_over c.args.limit c.args.line.now c.args.at c.if-at-line.true)
 
-pub returns-in-default : goal.returns-in-default
-returns-in-default c = sym (number_stray c.args.limit c.args.line.now c.args.at c.if-at-line.false c.in-default.ensures)
+pub returns-in_default : goal.returns-in_default
+returns-in_default c = sym (number_stray c.args.limit c.args.line.now c.args.at c.if-at-line.false c.in_default.ensures)
 
 pub loop-place-init : goal.loop-place-init
 loop-place-init c = sym (number_opens c.args.limit c.args.line.now c.args.at c.in-Some.value c.if-at-line.false c.in-Some.ensures)

@@ -8,8 +8,8 @@ use Rattle.lines.proofs.parts.word.Goals.{then-count-far, else-count-far}
 pub loop-candidate-init : goal.loop-candidate-init
 loop-candidate-init g c = (chooses_all g.W.Word.word c.args.all.now c.args.line.now c.args.at, omega arith)
 
-pub overflow-add-result : goal.overflow-add-result
-overflow-add-result g c =
+pub overflow_add-result : goal.overflow_add-result
+overflow_add-result g c =
     let count : c.alike-count.result ≡ alike (drop c.args.at c.args.line.now) (g.W.Word.word c.candidate-item.result) = count_is c.alike-count.ensures c.left-text.ensures c.text-word.ensures in
     omega (arith, count, alike_left (drop c.args.at c.args.line.now) (g.W.Word.word c.candidate-item.result), length-drop c.args.at c.args.line.now)
 
@@ -36,8 +36,8 @@ loop-candidate-preserved g c =
       omega (arith, most, c.loop-candidate.invariant.1, alike_left text (word a)),
     )
 
-pub overflow-add-result-2 : goal.overflow-add-result-2
-overflow-add-result-2 g c = omega (arith, c.loop-candidate.invariant.1, length-drop c.args.at c.args.line.now)
+pub overflow_add-result-2 : goal.overflow_add-result-2
+overflow_add-result-2 g c = omega (arith, c.loop-candidate.invariant.1, length-drop c.args.at c.args.line.now)
 
 pub returns : goal.returns
 returns g c =

@@ -14,9 +14,9 @@ returns c =
     let dir : c.take-direction.result ≡ field bytes (place + 8) 2 = cc in
     let size : length ≡ field bytes (place + 8 + 2) 13 = cc in
     let id : field bytes place 8 ≡ 44 = cc in
-    let least = c.if-length-lt-FIXED-BITS.false in
+    let least = c.if-length-lt-FIXED_BITS.false in
     let fits = c.if-at-length.false in
     record {
-      value = c.read-user-packet.ensures.value ∙ packet_44 bytes place c.args.at c.args.end rest.bytes.now rest.place c.take-direction.result length same at dir size id c.if-at-end.false least fits;
-      within = within_by_length c.read-user-packet.result length c.args.at c.args.end c.read-user-packet.ensures.length least fits;
+      value = c.read_user_packet.ensures.value ∙ packet_44 bytes place c.args.at c.args.end rest.bytes.now rest.place c.take-direction.result length same at dir size id c.if-at-end.false least fits;
+      within = within_by_length c.read_user_packet.result length c.args.at c.args.end c.read_user_packet.ensures.length least fits;
     }

@@ -5,7 +5,7 @@ use Rattle.writer.proofs.layout.laid_bit.Goals as goal
 
 pub returns-then-left-field : goal.returns-then-left-field
 returns-then-left-field c =
-    c.bit-above.ensures ∙ sym (laid_here c.args.fields.now c.loop-field.field-index c.loop-field.left c.loop-field-test.true c.if-left-field.true) ∙ c.loop-field.invariant
+    c.bit_above.ensures ∙ sym (laid_here c.args.fields.now c.loop-field.field-index c.loop-field.left c.loop-field-test.true c.if-left-field.true) ∙ c.loop-field.invariant
 
 pub loop-field-preserved : goal.loop-field-preserved
 loop-field-preserved c =

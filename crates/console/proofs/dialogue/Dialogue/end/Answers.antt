@@ -4,7 +4,7 @@ use Rattle.std.proofs.lemmas.Bool.{eqb-true}
 use Rattle.console.specs.Lines.{kept}
 use Rattle.console.proofs.dialogue.Dialogue.end.Goals as goal
 
-pub returns-else-not-is-empty : goal.returns-else-not-is-empty
-returns-else-not-is-empty g c =
+pub returns-else-not-is_empty : goal.returns-else-not-is_empty
+returns-else-not-is_empty g c =
     let line = kept c.args.self.now.line in
-    nil_from_length line (eqb-true (length line) 0 (sym c.if-not-is-empty.ensures))
+    nil_from_length line (eqb-true (length line) 0 (sym c.if-not-is_empty.ensures))

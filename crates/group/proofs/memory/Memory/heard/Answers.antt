@@ -8,5 +8,5 @@ returns-in-Closed c = lawful c.args.self c.args.header c.args.packets.now _ (sea
 pub returns-in-Open : goal.returns-in-Open
 returns-in-Open c = lawful c.args.self c.args.header c.args.packets.now _ (search rules)
 
-pub returns-in-default : goal.returns-in-default
-returns-in-default c = lawful c.args.self c.args.header c.args.packets.now _ (search rules)
+pub returns-in_default : goal.returns-in_default
+returns-in_default c = lawful c.args.self c.args.header c.args.packets.now _ (search rules)

@@ -2,9 +2,9 @@ use Rattle.std.proofs.Common.{rules}
 use Rattle.writer.specs.Drafts.{asked}
 use Rattle.writer.proofs.draft.Draft.asked.Goals as goal
 
-pub returns-then-not-all-fit : goal.returns-then-not-all-fit
+pub returns-then-not-all_fit : goal.returns-then-not-all_fit
 unfolding asked
-returns-then-not-all-fit c = search rules
+returns-then-not-all_fit c = search rules
 
 pub returns-then-self-eq0 : goal.returns-then-self-eq0
 unfolding asked

@@ -1,5 +1,5 @@
 -- The count of packets never cuts a reading short.
-use Rattle.std.proofs.Common.{◌≡◌, ℕ, zero, suc, ◌+◌, ◌*◌, ◌<◌, ◌≤◌, cond, eqb, ltb, List, [], ◌∷◌, length, Some, None, Ok, Err, Option, Result, sym, refl, ap, ◌∙◌, suc-add, arith}
+use Rattle.std.proofs.Common.{◌≡◌, ℕ, zero, suc, ◌+◌, ◌*◌, ◌<◌, ◌≤◌, cond, eqb, ltb, List, length, Some, None, Ok, Err, Option, Result, sym, refl, ap, suc-add, arith}
 use Rattle.std.proofs.lemmas.Bool.{cond_both, cond-true, eqb-true, lt-ltb, ltb-false}
 use Rattle.balise.specs.Codes.{digit_of}
 use Rattle.balise.specs.Directions.{direction_of}

@@ -1,9 +1,8 @@
 -- The packets of a telegram.
-use Rattle.std.specs.Prelude.{◌≡◌, ℕ, zero, suc, ◌+◌, ◌/◌, ◌%◌, ◌≤◌, Bool, cond, List, [], ◌∷◌, length, Some, None, Ok, Err, Option, Result, ◌==◌, nat_lt}
+use Rattle.std.specs.Prelude.{◌≡◌, ℕ, zero, suc, ◌+◌, ◌≤◌, cond, List, [], ◌∷◌, Some, None, Ok, Err, Option, Result, ◌==◌, nat_lt}
 use Rattle.telegram.specs.Bits.{field}
 use Rattle.balise.specs.Codes.{digit_of}
 use Rattle.balise.specs.Directions.{direction_of}
-use Rattle.balise.specs.declared.code.Code.{Code}
 use Rattle.balise.specs.declared.code.Digit.{Digit}
 use Rattle.balise.specs.declared.faults.PacketFault.{PacketFault}
 use Rattle.balise.specs.declared.faults.PacketFault.TheVariants.{NoEnd, PastEnd, TooShort, NoUser, Direction as NoDirection, CodeLength, Digit as NoDigit}

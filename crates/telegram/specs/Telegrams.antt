@@ -1,5 +1,5 @@
 -- A telegram from the antenna's bytes to its reading.
-use Rattle.std.specs.Prelude.{◌≡◌, ℕ, ◌+◌, Bool, true, false, cond, List, [], ◌∷◌, ◌++◌, length, Ok, Err, Result, ◌==◌}
+use Rattle.std.specs.Prelude.{◌≡◌, ℕ, ◌+◌, Bool, true, false, cond, List, length, Ok, Err, Result, ◌==◌}
 use Rattle.telegram.specs.Bits.{field}
 use Rattle.telegram.specs.Headers.{header_in, header_asked}
 use Rattle.telegram.specs.Lists.{packets_of}

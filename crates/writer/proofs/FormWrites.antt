@@ -1,21 +1,20 @@
 -- A telegram of the writer's form is what the writer writes for its reading.
-use Rattle.std.proofs.Common.{◌≡◌, ℕ, ◌+◌, ◌-◌, ◌^◌, ◌<◌, ◌≤◌, true, false, cond, ◌||◌, eqb, ltb, List, [], ◌∷◌, length, get_or, Ok, sym, refl, ap, ◌∙◌, ⊎_elim, arith}
+use Rattle.std.proofs.Common.{◌≡◌, ℕ, ◌+◌, ◌-◌, ◌^◌, ◌<◌, ◌≤◌, true, false, cond, ltb, List, Ok, sym, refl, ap, ◌∙◌, ⊎_elim, arith}
 use Rattle.std.proofs.lemmas.Bool.{cases_lt, cond-true, cond-false, lt-ltb, le-ltb, ne_eqb, or_from}
 use Rattle.telegram.proofs.Fields.{bit_below}
-use Rattle.telegram.specs.Bits.{bit, number, field}
+use Rattle.telegram.specs.Bits.{bit, field}
 use Rattle.balise.specs.Codes.{digits, value_of}
 use Rattle.telegram.specs.Headers.{header_in}
 use Rattle.balise.specs.Directions.{directions, direction_value}
-use Rattle.telegram.specs.Telegrams.{Reading}
 use Rattle.balise.specs.declared.code.Digit.TheVariants.{Zero}
 use Rattle.balise.specs.declared.header.Header.{Header}
 use Rattle.balise.specs.declared.packet.Direction.TheVariants.{Reverse}
 use Rattle.balise.specs.declared.packet.Tbl1Packet.{Tbl1Packet}
 use Rattle.writer.specs.Drafts.{asked}
-use Rattle.writer.specs.Layouts.{layout, all_fit, laid_bit, laid_bytes}
-use Rattle.writer.specs.RoundTrip.{draft_of, OfWritersForm, WritesBack}
+use Rattle.writer.specs.Layouts.{layout, all_fit, laid_bit}
+use Rattle.writer.specs.RoundTrip.{draft_of, WritesBack}
 use Rattle.writer.specs.declared.draft.Draft.{Draft}
-use Rattle.writer.proofs.Cuts.{widths, values, total, numbers, cut, laid_pad}
+use Rattle.writer.proofs.Cuts.{widths, values, total, cut, laid_pad}
 use Rattle.writer.proofs.FormParts.{Acceptable, CodeAt, reading_parts, packet_parts}
 use Rattle.writer.proofs.Numbers.{number_same}
 use Rattle.writer.proofs.ReadingBack.{Fields, bits_of_layout}

@@ -1,5 +1,5 @@
 -- The telegram of a draft is accepted and reads as the draft.
-use Rattle.std.proofs.Common.{◌≡◌, ℕ, ◌^◌, ◌<◌, ◌≤◌, Bool, true, cond, eqb, ltb, List, [], ◌∷◌, ◌++◌, length, get_or, take, drop, Some, None, Ok, Err, Option, Result, sym, refl, ap, ◌∙◌, ap₂, arith}
+use Rattle.std.proofs.Common.{◌≡◌, ℕ, ◌^◌, ◌<◌, ◌≤◌, true, ltb, List, [], ◌∷◌, length, take, drop, Some, Ok, Err, Option, Result, sym, refl, ap, ◌∙◌, ap₂, arith}
 use Rattle.std.proofs.lemmas.List.{take_at}
 use Rattle.std.proofs.lemmas.Option.{slice_get-get_or}
 use Rattle.std.proofs.lemmas.Bool.{cond-true, cond-false, eq-eqb, ne_eqb, le-ltb}
@@ -17,7 +17,6 @@ use Rattle.balise.specs.declared.faults.PacketFault.{PacketFault}
 use Rattle.balise.specs.declared.header.Header.{Header}
 use Rattle.balise.specs.declared.packet.Direction.{Direction}
 use Rattle.balise.specs.declared.packet.Direction.TheVariants.{Reverse}
-use Rattle.telegram.specs.declared.packet.Found.{Found}
 use Rattle.telegram.specs.declared.packet.Found.TheVariants.{End, Tbl1}
 use Rattle.balise.specs.declared.packet.Tbl1Packet.{Tbl1Packet}
 use Rattle.telegram.proofs.Fields.{field_below}

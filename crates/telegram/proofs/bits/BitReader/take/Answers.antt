@@ -1,4 +1,4 @@
-use Rattle.std.proofs.Common.{◌≡◌, ◌+◌, refl, arith}
+use Rattle.std.proofs.Common.{◌+◌, refl, arith}
 use Rattle.telegram.specs.Bits.{field}
 use Rattle.telegram.proofs.Fields.{field_more, field_room, bit_below}
 use Rattle.telegram.proofs.bits.BitReader.take.Goals as goal

@@ -1,5 +1,5 @@
 -- What an answer says.
-use Rattle.std.specs.Prelude.{List, Some, None, Ok, Err, Option, Result}
+use Rattle.std.specs.Prelude.{Some, None, Ok, Err, Option, Result}
 use Rattle.balise.specs.declared.code.Code.{Code}
 use Rattle.balise.specs.declared.faults.FrameFault.{FrameFault}
 use Rattle.balise.specs.Faults.{frame_refusal}

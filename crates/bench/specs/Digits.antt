@@ -1,5 +1,5 @@
 -- Digits read, and the letters of what is printed, as ASCII codes.
-use Rattle.std.specs.Prelude.{ℕ, ◌+◌, ◌-◌, Bool, true, false, cond, Some, None, Option, nat_le, nat_lt}
+use Rattle.std.specs.Prelude.{ℕ, ◌+◌, ◌-◌, Bool, false, cond, Some, None, Option, nat_le, nat_lt}
 use Rattle.balise.specs.Codes.{value_of}
 use Rattle.balise.specs.declared.code.Digit.{Digit}
 use Rattle.balise.specs.declared.packet.Direction.{Direction}

@@ -25,7 +25,8 @@ pub struct Session {
 impl Answerer for Session {
     fn answer(&mut self, line: &[u8], answers: &mut String) -> fmt::Result {
         let answer = self.reply(line);
-        write!(answers, "{answer}")
+        write!(answers, "{answer}")?;
+        Ok(())
     }
 }
 

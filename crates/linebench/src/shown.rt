@@ -25,7 +25,7 @@ pub fn show_happening(event: Event<'_>, answers: &mut String) -> fmt::Result {
 fn show_speed(speed: Speed, answers: &mut String) -> fmt::Result {
     match speed {
         Speed::Lost => answers.write_str("speed,lost"),
-        Speed::Kmh(kmh) => write!(answers, "speed,{kmh}"),
+        Speed::Kmh(kmh) => Ok(write!(answers, "speed,{kmh}")?),
     }
 }
 

@@ -24,9 +24,9 @@ lay() { # PROGRAM CRATES
 while IFS='|' read -r lawful unlawful crates words; do
     case $lawful in '' | '#'*) continue ;; esac
     lay "$lawful" "$crates"
-    (cd "$work" && rt check trial) >"$work/out" 2>&1 || { cat "$work/out"; fail "$lawful should be accepted"; }
+    (cd "$work/crates/trial" && rt check) >"$work/said" 2>&1 || { cat "$work/said"; fail "$lawful should be accepted"; }
     lay "$unlawful" "$crates"
-    if (cd "$work" && rt check trial) >"$work/out" 2>&1; then fail "$unlawful should be refused"; fi
-    grep -qF "$words" "$work/out" || { cat "$work/out"; fail "$unlawful is refused for another reason than: $words"; }
+    if (cd "$work/crates/trial" && rt check) >"$work/said" 2>&1; then fail "$unlawful should be refused"; fi
+    grep -qF "$words" "$work/said" || { cat "$work/said"; fail "$unlawful is refused for another reason than: $words"; }
     echo "refused programs: $unlawful is refused ($words), $lawful is accepted"
 done <"$here/pairs.txt"

@@ -1,5 +1,5 @@
 -- What the values of the code mean.
-use Rattle.std.specs.Prelude.{ℕ, ◌+◌, ◌*◌, Bool, true, false, eqb, List, [], ◌∷◌, take, Ok, Err, Result}
+use Rattle.std.specs.Prelude.{ℕ, ◌+◌, ◌*◌, Bool, true, false, List, [], ◌∷◌, take, Ok, Err, Result}
 use Rattle.cab.specs.declared.event.Event.{Event}
 use Rattle.cab.specs.declared.event.Event.TheVariants as event
 use Rattle.cab.specs.declared.event.Speed.{Speed}

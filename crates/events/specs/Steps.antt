@@ -1,5 +1,5 @@
 -- What the reader's small steps give.
-use Rattle.std.specs.Prelude.{ℕ, ◌+◌, ◌-◌, cond, List, [], ◌∷◌, ◌++◌, length, drop, Some, None, Ok, Err, Option}
+use Rattle.std.specs.Prelude.{ℕ, ◌+◌, ◌-◌, cond, List, [], ◌∷◌, ◌++◌, length, Some, None, Ok, Err, Option}
 use Rattle.lines.specs.Parts.{Reading, alike, begins, digit}
 use Rattle.events.specs.Reads.{hex_value}
 

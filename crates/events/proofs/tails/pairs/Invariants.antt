@@ -1,4 +1,4 @@
-use Rattle.std.proofs.Common.{◌≡◌, ◌-◌, ◌≤◌, length, drop}
+use Rattle.std.proofs.Common.{◌≡◌, ◌-◌, length, drop}
 use Rattle.events.specs.Heard.{bytes_of}
 use Rattle.events.specs.Reads.{pairs_at, pairs_from}
 use Rattle.events.specs.Steps.{behind}

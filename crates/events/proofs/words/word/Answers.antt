@@ -1,4 +1,4 @@
-use Rattle.std.proofs.Common.{◌≡◌, ◌+◌, drop, arith}
+use Rattle.std.proofs.Common.{◌≡◌, drop, arith}
 use Rattle.lines.specs.Parts.{alike}
 use Rattle.events.proofs.Going.{alike_step, alike_differs, alike_over, alike_past, word_stops, word_ends}
 use Rattle.events.proofs.words.word.Goals as goal

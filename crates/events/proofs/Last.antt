@@ -48,8 +48,8 @@ ended_made f line (Ok p) = here (eqb p.1 (length line))
 
 -- values of another type, one for each
 module _ {A B : Type 0} {Good : A → Type 0} {write : A → List ℕ} (Other : B → Type 0) (text : B → List ℕ) (f : A → B) where
-  pub last-map : {read : List ℕ → ℕ → Reading A} → ((a : A) → Good a → Other (f a)) → ((a : A) → Good a → text (f a) ≡ write a) → ((b : B) → Other b → (a : A) × Good a × (b ≡ f a)) → Last Good write read → Last Other text (λ line at. made f (read line at))
-  last-map {read} to same from l = record {
+  pub last_map : {read : List ℕ → ℕ → Reading A} → ((a : A) → Good a → Other (f a)) → ((a : A) → Good a → text (f a) ≡ write a) → ((b : B) → Other b → (a : A) × Good a × (b ≡ f a)) → Last Good write read → Last Other text (λ line at. made f (read line at))
+  last_map {read} to same from l = record {
     once = λ b d gb gd e.
         let x = from b gb in
         let y = from d gd in
@@ -93,8 +93,8 @@ module _ {A B C : Type 0} (First : A → Type 0) (write : A → List ℕ) (Secon
   whole k c g m = ap text m.is ∙ k.wrote m.a m.b m.first m.second
 
   -- where the first part stops, the whole breaks
-  first-breaks : Composed → (left : List ℕ) (q : ℕ) → Stops First write left q → Breaks Good text left q
-  first-breaks k left q s = record {
+  first_breaks : Composed → (left : List ℕ) (q : ℕ) → Stops First write left q → Breaks Good text left q
+  first_breaks k left q s = record {
     within = s.within;
     start =
         let z = s.start in
@@ -130,8 +130,8 @@ module _ {A B C : Type 0} (First : A → Type 0) (write : A → List ℕ) (Secon
       record { b = m.b; second = moved.0; rest = append_cancel_left (write a) (tail a m.b) s moved.1; is = moved.2 }
 
   -- where the last part breaks, the whole breaks
-  next-breaks : Composed → Apart First write → (a : A) → First a → (left : List ℕ) (q : ℕ) → Breaks (Second a) (tail a) left q → Breaks Good text (write a ++ left) (length (write a) + q)
-  next-breaks k apart a f left q s = record {
+  next_breaks : Composed → Apart First write → (a : A) → First a → (left : List ℕ) (q : ℕ) → Breaks (Second a) (tail a) left q → Breaks Good text (write a ++ left) (length (write a) + q)
+  next_breaks k apart a f left q s = record {
     within = omega (arith, length-append (write a) left, s.within);
     start =
         let z = s.start in
@@ -155,14 +155,14 @@ module _ {A B C : Type 0} (First : A → Type 0) (write : A → List ℕ) (Secon
     where
       after : (line : List ℕ) (at : ℕ) (a : A) (n : ℕ) → Takes First write line at a n → (r : Result B ℕ) → Ends (Second a) (tail a) (drop n line) n r → Ends Good text (drop at line) at (mapped (make a) r)
       after line at a n t (Ok b) e = (k.good a b t.good e.0, t.split ∙ ap (λ (x : List ℕ). write a ++ x) e.1 ∙ sym (k.wrote a b t.good e.0))
-      after line at a n t (Err p) e = (length (write a) + e.0, e.1 ∙ ap (λ (m : ℕ). m + e.0) t.next ∙ add_assoc at (length (write a)) e.0, subst (λ (x : List ℕ). Breaks Good text x (length (write a) + e.0)) (sym t.split) (next-breaks k first.apart a t.good (drop n line) e.0 e.2))
+      after line at a n t (Err p) e = (length (write a) + e.0, e.1 ∙ ap (λ (m : ℕ). m + e.0) t.next ∙ add_assoc at (length (write a)) e.0, subst (λ (x : List ℕ). Breaks Good text x (length (write a) + e.0)) (sym t.split) (next_breaks k first.apart a t.good (drop n line) e.0 e.2))
 
-      in-line : (line : List ℕ) (at : ℕ) (a : A) (n : ℕ) → at ≤ length line → Takes First write line at a n → n ≤ length line
-      in-line line at a n h t = omega (arith, t.next, sym (length-drop at line) ∙ ap length t.split ∙ length-append (write a) (drop n line))
+      in_line : (line : List ℕ) (at : ℕ) (a : A) (n : ℕ) → at ≤ length line → Takes First write line at a n → n ≤ length line
+      in_line line at a n h t = omega (arith, t.next, sym (length-drop at line) ∙ ap length t.split ∙ length-append (write a) (drop n line))
 
       found : (line : List ℕ) (at : ℕ) → at ≤ length line → (r : Reading A) → Found First write line at r → Ends Good text (drop at line) at (ended line (and_then r (λ a n. made (make a) (follow a line n))))
-      found line at h (Ok p) f = subst (Ends Good text (drop at line) at) (sym (ended_made (make p.0) line (follow p.0 line p.1))) (after line at p.0 p.1 f (ended line (follow p.0 line p.1)) ((rest p.0 f.good).found line p.1 (in-line line at p.0 p.1 h f)))
-      found line at h (Err p) f = (f.q, f.place, first-breaks k (drop at line) f.q f.stops)
+      found line at h (Ok p) f = subst (Ends Good text (drop at line) at) (sym (ended_made (make p.0) line (follow p.0 line p.1))) (after line at p.0 p.1 f (ended line (follow p.0 line p.1)) ((rest p.0 f.good).found line p.1 (in_line line at p.0 p.1 h f)))
+      found line at h (Err p) f = (f.q, f.place, first_breaks k (drop at line) f.q f.stops)
 
 -- nothing is left
 abbrev Nothing : Unit {0} → Type 0
@@ -211,8 +211,8 @@ sound_last {A} {Good} {write} {read} s = last_read read (λ line at. made_same (
 
 module _ {A : Type 0} {Good : A → Type 0} {write : A → List ℕ} {read : List ℕ → ℕ → Reading A} (l : Last Good write read) where
   -- what a line reads as says of it
-  pub last-tells : (line : List ℕ) → Tells Good write line (ended line (read line 0))
-  last-tells line = tells (ended line (read line 0)) (l.found line 0 (omega arith))
+  pub last_tells : (line : List ℕ) → Tells Good write line (ended line (read line 0))
+  last_tells line = tells (ended line (read line 0)) (l.found line 0 (omega arith))
     where
       tells : (r : Result A ℕ) → Ends Good write line 0 r → Tells Good write line r
       tells (Ok a) e = (e.0, sym e.1)
@@ -224,8 +224,8 @@ module _ {A : Type 0} {Good : A → Type 0} {write : A → List ℕ} {read : Lis
       })
 
   -- what is written reads back
-  pub last-reads-back : (a : A) → Good a → ended (write a) (read (write a) 0) ≡ Ok a
-  last-reads-back a g = back (ended (write a) (read (write a) 0)) (last-tells (write a))
+  pub last_reads_back : (a : A) → Good a → ended (write a) (read (write a) 0) ≡ Ok a
+  last_reads_back a g = back (ended (write a) (read (write a) 0)) (last_tells (write a))
     where
       back : (r : Result A ℕ) → Tells Good write (write a) r → r ≡ Ok a
       back (Ok b) t = ap Ok (l.once b a t.0 g t.1)

@@ -14,16 +14,16 @@ use Rattle.lines.specs.Parts.{Reading, and_then, word_at, number_at}
 use Rattle.lines.specs.declared.faults.TextFault.{TextFault}
 use Rattle.lines.specs.declared.faults.TextFault.TheVariants.{Illegal, Short}
 use Rattle.lines.proofs.Decimals.{with_comma}
-use Rattle.lines.proofs.Numbers.{numbers-sound}
+use Rattle.lines.proofs.Numbers.{numbers_sound}
 use Rattle.lines.proofs.Sound.{Sound, sound_good}
-use Rattle.lines.proofs.Tables.{Among, words-sound}
+use Rattle.lines.proofs.Tables.{Among, words_sound}
 use Rattle.events.specs.declared.line.EventLine.{EventLine}
 use Rattle.events.specs.Heard.{line_result, result_meant}
 use Rattle.events.specs.Law.{Lawful, ReadsBack}
 use Rattle.events.specs.Reads.{kinds, pulses, levers, buttons, flags, rest_at, what_at, said, event_read}
 use Rattle.events.specs.Said.{Happening, tick, speed, pulse, lever, button, telegram, Written, lost, Said, GoodSpeed, GoodWhat, Good}
 use Rattle.events.specs.Texts.{kind_text, kind_of, pulse_text, lever_text, button_text, press_text, crc_text, pairs_text, rest_text, event_text}
-use Rattle.events.proofs.Last.{Last, last_read, last-map, last_then, last_none, sound_last, last-tells, last-reads-back, Composed, Made}
+use Rattle.events.proofs.Last.{Last, last_read, last_map, last_then, last_none, sound_last, last_tells, last_reads_back, Composed, Made}
 use Rattle.events.proofs.Pairs.{Pairs, pairs_last}
 use Rattle.events.proofs.Speeds.{speed_last}
 
@@ -66,22 +66,22 @@ flag_among true = inl refl
 flag_among false = inr (inl refl)
 
 kind_sound : Sound All kind_text (word_at kind_text kinds)
-kind_sound = sound_good All (λ a g. tt) (λ a g. kind_among a) (words-sound kind_text kinds refl (omega arith))
+kind_sound = sound_good All (λ a g. tt) (λ a g. kind_among a) (words_sound kind_text kinds refl (omega arith))
 
 pulse_sound : Sound All pulse_text (word_at pulse_text pulses)
-pulse_sound = sound_good All (λ a g. tt) (λ a g. pulse_among a) (words-sound pulse_text pulses refl (omega arith))
+pulse_sound = sound_good All (λ a g. tt) (λ a g. pulse_among a) (words_sound pulse_text pulses refl (omega arith))
 
 lever_sound : Sound All lever_text (word_at lever_text levers)
-lever_sound = sound_good All (λ a g. tt) (λ a g. lever_among a) (words-sound lever_text levers refl (omega arith))
+lever_sound = sound_good All (λ a g. tt) (λ a g. lever_among a) (words_sound lever_text levers refl (omega arith))
 
 button_sound : Sound All button_text (word_at button_text buttons)
-button_sound = sound_good All (λ a g. tt) (λ a g. button_among a) (words-sound button_text buttons refl (omega arith))
+button_sound = sound_good All (λ a g. tt) (λ a g. button_among a) (words_sound button_text buttons refl (omega arith))
 
 press_sound : Sound All press_text (word_at press_text flags)
-press_sound = sound_good All (λ a g. tt) (λ a g. flag_among a) (words-sound press_text flags refl (omega arith))
+press_sound = sound_good All (λ a g. tt) (λ a g. flag_among a) (words_sound press_text flags refl (omega arith))
 
 crc_sound : Sound All crc_text (word_at crc_text flags)
-crc_sound = sound_good All (λ a g. tt) (λ a g. flag_among a) (words-sound crc_text flags refl (omega arith))
+crc_sound = sound_good All (λ a g. tt) (λ a g. flag_among a) (words_sound crc_text flags refl (omega arith))
 
 -- What stands behind a kind.
 
@@ -89,7 +89,7 @@ abbrev Of : Kind → Happening Written → Type 0
 Of k w = GoodWhat w × (kind_of w ≡ k)
 
 tick_last : Last (Of kind.Tick) rest_text (rest_at kind.Tick)
-tick_last = last-map (Of kind.Tick) rest_text (λ u. tick) (λ u g. (tt, refl)) (λ u g. refl) from last_none
+tick_last = last_map (Of kind.Tick) rest_text (λ u. tick) (λ u g. (tt, refl)) (λ u g. refl) from last_none
   where
     from : (w : Happening Written) → Of kind.Tick w → (u : Unit {0}) × (Unit {0}) × (w ≡ tick)
     from tick g = (tt, tt, refl)
@@ -100,7 +100,7 @@ tick_last = last-map (Of kind.Tick) rest_text (λ u. tick) (λ u g. (tt, refl)) 
     from (telegram c bs) g = let e = g.1 in clash (cc)
 
 speed_rest : Last (Of kind.Speed) rest_text (rest_at kind.Speed)
-speed_rest = last-map (Of kind.Speed) rest_text speed (λ v g. (g, refl)) (λ v g. refl) from speed_last
+speed_rest = last_map (Of kind.Speed) rest_text speed (λ v g. (g, refl)) (λ v g. refl) from speed_last
   where
     from : (w : Happening Written) → Of kind.Speed w → (v : Written) × GoodSpeed v × (w ≡ speed v)
     from (speed v) g = (v, g.0, refl)
@@ -111,7 +111,7 @@ speed_rest = last-map (Of kind.Speed) rest_text speed (λ v g. (g, refl)) (λ v 
     from (telegram c bs) g = let e = g.1 in clash (cc)
 
 pulse_rest : Last (Of kind.Pulse) rest_text (rest_at kind.Pulse)
-pulse_rest = last-map (Of kind.Pulse) rest_text pulse (λ p g. (tt, refl)) (λ p g. refl) from (sound_last pulse_sound)
+pulse_rest = last_map (Of kind.Pulse) rest_text pulse (λ p g. (tt, refl)) (λ p g. refl) from (sound_last pulse_sound)
   where
     from : (w : Happening Written) → Of kind.Pulse w → (p : Pulse) × All p × (w ≡ pulse p)
     from (pulse p) g = (p, tt, refl)
@@ -122,7 +122,7 @@ pulse_rest = last-map (Of kind.Pulse) rest_text pulse (λ p g. (tt, refl)) (λ p
     from (telegram c bs) g = let e = g.1 in clash (cc)
 
 lever_rest : Last (Of kind.Lever) rest_text (rest_at kind.Lever)
-lever_rest = last-map (Of kind.Lever) rest_text lever (λ l g. (tt, refl)) (λ l g. refl) from (sound_last lever_sound)
+lever_rest = last_map (Of kind.Lever) rest_text lever (λ l g. (tt, refl)) (λ l g. refl) from (sound_last lever_sound)
   where
     from : (w : Happening Written) → Of kind.Lever w → (l : Lever) × All l × (w ≡ lever l)
     from (lever l) g = (l, tt, refl)
@@ -219,7 +219,7 @@ abbrev event_at : List ℕ → ℕ → Reading Said
 event_at line at = and_then (number_at 9999999999 line at) (λ t n. and_then (what_at line n) (λ w m. Ok (said t w, m)))
 
 event_last : Last Good event_text event_at
-event_last = last_then (λ t. t ≤ 9999999999) with_comma (λ t w. GoodWhat w) (λ t w. what_text w) Good event_text said composed (numbers-sound 9999999999 (omega arith)) (λ t g. what_last)
+event_last = last_then (λ t. t ≤ 9999999999) with_comma (λ t w. GoodWhat w) (λ t w. what_text w) Good event_text said composed (numbers_sound 9999999999 (omega arith)) (λ t g. what_last)
   where
     composed : Composed (λ t. t ≤ 9999999999) with_comma (λ t w. GoodWhat w) (λ t w. what_text w) Good event_text said
     composed = record {
@@ -230,10 +230,10 @@ event_last = last_then (λ t. t ≤ 9999999999) with_comma (λ t w. GoodWhat w) 
     }
 
 pub event_tells : (line : List ℕ) → Tells Good event_text line (event_read line)
-event_tells line = last-tells event_last line
+event_tells line = last_tells event_last line
 
 pub event_reads_back : ReadsBack
-event_reads_back s g = last-reads-back event_last s g
+event_reads_back s g = last_reads_back event_last s g
 
 pub lawful : (line : List ℕ) (r : Result EventLine TextFault) → line_result r ≡ illegal_at (result_meant (event_read line)) → Lawful line r
 lawful line r e = here r (event_read line) (event_tells line) e

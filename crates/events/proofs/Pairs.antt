@@ -166,11 +166,11 @@ module _ (line : List ℕ) where
     },
   )
 
-  next-pair : (most at h l a b : ℕ) (cs : List ℕ) → hex_value h ≡ Some a → hex_value l ≡ Some b → (r : Result (List ℕ) ℕ) → Ends (Pairs most) pairs_text cs (at + 2) r → Ends (Pairs (suc most)) pairs_text (h ∷ (l ∷ cs)) at (mapped (λ bs. (16 * a + b) ∷ bs) r)
-  next-pair most at h l a b cs eh el (Ok bs) e =
+  next_pair : (most at h l a b : ℕ) (cs : List ℕ) → hex_value h ≡ Some a → hex_value l ≡ Some b → (r : Result (List ℕ) ℕ) → Ends (Pairs most) pairs_text cs (at + 2) r → Ends (Pairs (suc most)) pairs_text (h ∷ (l ∷ cs)) at (mapped (λ bs. (16 * a + b) ∷ bs) r)
+  next_pair most at h l a b cs eh el (Ok bs) e =
       let t = byte_text h l a b eh el in
       ((omega (arith, e.0.0), (t.0, e.0.1)), ap (λ (x : List ℕ). h ∷ (l ∷ x)) e.1 ∙ ap (λ (x : ℕ). x ∷ (l ∷ pairs_text bs)) (sym t.1) ∙ ap (λ (x : ℕ). hex_digit ((16 * a + b) / 16) ∷ (x ∷ pairs_text bs)) (sym t.2))
-  next-pair most at h l a b cs eh el (Err p) e = (
+  next_pair most at h l a b cs eh el (Err p) e = (
     suc (suc e.0),
     omega (arith, e.1),
     record {
@@ -211,7 +211,7 @@ module _ (line : List ℕ) where
     where
       second : Ends (Pairs most) pairs_text cs (at + 2) (ended line (pairs_from most cs (at + 2))) → (a : ℕ) → hex_value h ≡ Some a → (o : Option ℕ) → hex_value l ≡ o → Ends (Pairs (suc most)) pairs_text (h ∷ (l ∷ cs)) at (ended line (pair_then (Some a) o at (pairs_from most cs (at + 2))))
       second next a eh None e = stops_second most at h a (l ∷ cs) eh (λ x xs i. ap hex_value (sym (heads i).0) ∙ e)
-      second next a eh (Some b) e = subst (Ends (Pairs (suc most)) pairs_text (h ∷ (l ∷ cs)) at) (sym (ended_front (16 * a + b) line (pairs_from most cs (at + 2)))) (next-pair most at h l a b cs eh e (ended line (pairs_from most cs (at + 2))) next)
+      second next a eh (Some b) e = subst (Ends (Pairs (suc most)) pairs_text (h ∷ (l ∷ cs)) at) (sym (ended_front (16 * a + b) line (pairs_from most cs (at + 2)))) (next_pair most at h l a b cs eh e (ended line (pairs_from most cs (at + 2))) next)
 
       first : Ends (Pairs most) pairs_text cs (at + 2) (ended line (pairs_from most cs (at + 2))) → (o : Option ℕ) → hex_value h ≡ o → Ends (Pairs (suc most)) pairs_text (h ∷ (l ∷ cs)) at (ended line (pair_then o (hex_value l) at (pairs_from most cs (at + 2))))
       first next None e = stops_first (suc most) at h (l ∷ cs) (λ more bs g i. no_high (suc most) h more bs e g i)

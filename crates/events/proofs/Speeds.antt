@@ -132,9 +132,9 @@ module _ (line : List ℕ) (at : ℕ) where
     },
   )
 
-  lost-here : (cs : List ℕ) → length line ≡ at + length (76 ∷ cs) → Ends GoodSpeed speed_text (76 ∷ cs) at (ended line (Ok (lost, at + 1)))
-  lost-here [] size = subst (Ends GoodSpeed speed_text (76 ∷ []) at) (sym (cond-true (eqb (at + 1) (length line)) (Ok lost) (Err (at + 1)) (eq-eqb (at + 1) (length line) (omega arith)))) (tt, refl)
-  lost-here (x ∷ xs) size = subst (Ends GoodSpeed speed_text (76 ∷ (x ∷ xs)) at) (sym (ap (λ (b : Bool). cond b (Ok lost) (Err (at + 1))) (ne_eqb (at + 1) (length line) (λ e. omega arith)))) (
+  lost_here : (cs : List ℕ) → length line ≡ at + length (76 ∷ cs) → Ends GoodSpeed speed_text (76 ∷ cs) at (ended line (Ok (lost, at + 1)))
+  lost_here [] size = subst (Ends GoodSpeed speed_text (76 ∷ []) at) (sym (cond-true (eqb (at + 1) (length line)) (Ok lost) (Err (at + 1)) (eq-eqb (at + 1) (length line) (omega arith)))) (tt, refl)
+  lost_here (x ∷ xs) size = subst (Ends GoodSpeed speed_text (76 ∷ (x ∷ xs)) at) (sym (ap (λ (b : Bool). cond b (Ok lost) (Err (at + 1))) (ne_eqb (at + 1) (length line) (λ e. omega arith)))) (
     1,
     refl,
     record {
@@ -146,12 +146,12 @@ module _ (line : List ℕ) (at : ℕ) where
   )
 
   -- digits and the end of the line, or what does not go on with them
-  digits-here : (left : List ℕ) (d : ℕ) (ds rest : List ℕ) → left ≡ digits_text (d ∷ ds) ++ rest → d < 10 → Below 10 ds → length (d ∷ ds) ≤ 3 → ((x : ℕ) (xs : List ℕ) → rest ≡ x ∷ xs → length (d ∷ ds) < 3 → digit x ≡ false) → length line ≡ at + length left → Ends GoodSpeed speed_text left at (ended line (Ok (digits (d ∷ ds), at + length (d ∷ ds))))
-  digits-here left d ds [] split l below few stops size = subst (Ends GoodSpeed speed_text left at) (sym (cond-true (eqb (at + length (d ∷ ds)) (length line)) (Ok (digits (d ∷ ds))) (Err (at + length (d ∷ ds))) (eq-eqb (at + length (d ∷ ds)) (length line) (omega (arith, size, ap length all, digits_length (d ∷ ds)))))) ((omega arith, few, (l, below)), all)
+  digits_here : (left : List ℕ) (d : ℕ) (ds rest : List ℕ) → left ≡ digits_text (d ∷ ds) ++ rest → d < 10 → Below 10 ds → length (d ∷ ds) ≤ 3 → ((x : ℕ) (xs : List ℕ) → rest ≡ x ∷ xs → length (d ∷ ds) < 3 → digit x ≡ false) → length line ≡ at + length left → Ends GoodSpeed speed_text left at (ended line (Ok (digits (d ∷ ds), at + length (d ∷ ds))))
+  digits_here left d ds [] split l below few stops size = subst (Ends GoodSpeed speed_text left at) (sym (cond-true (eqb (at + length (d ∷ ds)) (length line)) (Ok (digits (d ∷ ds))) (Err (at + length (d ∷ ds))) (eq-eqb (at + length (d ∷ ds)) (length line) (omega (arith, size, ap length all, digits_length (d ∷ ds)))))) ((omega arith, few, (l, below)), all)
     where
       all : left ≡ digits_text (d ∷ ds)
       all = split ∙ append-nil (digits_text (d ∷ ds))
-  digits-here left d ds (x ∷ xs) split l below few stops size = subst (Ends GoodSpeed speed_text left at) (sym (ap (λ (b : Bool). cond b (Ok (digits (d ∷ ds))) (Err (at + length (d ∷ ds)))) (ne_eqb (at + length (d ∷ ds)) (length line) (λ e. omega (arith, e, size, sizes))))) (
+  digits_here left d ds (x ∷ xs) split l below few stops size = subst (Ends GoodSpeed speed_text left at) (sym (ap (λ (b : Bool). cond b (Ok (digits (d ∷ ds))) (Err (at + length (d ∷ ds)))) (ne_eqb (at + length (d ∷ ds)) (length line) (λ e. omega (arith, e, size, sizes))))) (
     length (d ∷ ds),
     refl,
     record {
@@ -168,9 +168,9 @@ module _ (line : List ℕ) (at : ℕ) where
       one_more : take (length (d ∷ ds) + 1) left ≡ digits_text (d ∷ ds) ++ (x ∷ [])
       one_more = ap (λ (n : ℕ). take (n + 1) left) (sym (digits_length (d ∷ ds))) ∙ ap (take (length (digits_text (d ∷ ds)) + 1)) split ∙ take_past (digits_text (d ∷ ds)) (x ∷ xs) 1
 
-  speed-ends : (left : List ℕ) → length line ≡ at + length left → Ends GoodSpeed speed_text left at (ended line (speed_from left at))
-  speed-ends [] size = empty
-  speed-ends (c ∷ cs) size = letter (eqb c 76) refl
+  speed_ends : (left : List ℕ) → length line ≡ at + length left → Ends GoodSpeed speed_text left at (ended line (speed_from left at))
+  speed_ends [] size = empty
+  speed_ends (c ∷ cs) size = letter (eqb c 76) refl
     where
       back : (48 ≤ c) → c ≡ 48 + (c - 48)
       back h = omega arith
@@ -183,16 +183,16 @@ module _ (line : List ℕ) (at : ℕ) where
           let h = digit_range c e in
           let r = run 2 cs in
           subst (λ (m : ℕ). Ends GoodSpeed speed_text (c ∷ cs) at (ended line (Ok (digits ((c - 48) ∷ digits_in 2 cs), m)))) place
-          (digits-here (c ∷ cs) (c - 48) (digits_in 2 cs) r.rest (ap (λ (x : ℕ). x ∷ cs) (back h.0) ∙ ap (λ (l : List ℕ). (48 + (c - 48)) ∷ l) r.split) (omega (arith, h.0, h.1)) r.below (omega (arith, r.few)) (λ x xs i l. r.stops x xs i (omega (arith, l))) size)
+          (digits_here (c ∷ cs) (c - 48) (digits_in 2 cs) r.rest (ap (λ (x : ℕ). x ∷ cs) (back h.0) ∙ ap (λ (l : List ℕ). (48 + (c - 48)) ∷ l) r.split) (omega (arith, h.0, h.1)) r.below (omega (arith, r.few)) (λ x xs i l. r.stops x xs i (omega (arith, l))) size)
       numeral n false e = other c cs (eqb-false c 76 n) e
 
       letter : (b : Bool) → eqb c 76 ≡ b → Ends GoodSpeed speed_text (c ∷ cs) at (ended line (cond b (Ok (lost, at + 1)) (cond (digit c) (Ok (digits ((c - 48) ∷ digits_in 2 cs), at + 1 + length (digits_in 2 cs))) (Err at))))
-      letter true e = subst (λ (x : ℕ). Ends GoodSpeed speed_text (x ∷ cs) at (ended line (Ok (lost, at + 1)))) (sym (eqb-true c 76 e)) (lost-here cs size)
+      letter true e = subst (λ (x : ℕ). Ends GoodSpeed speed_text (x ∷ cs) at (ended line (Ok (lost, at + 1)))) (sym (eqb-true c 76 e)) (lost_here cs size)
       letter false e = numeral e (digit c) refl
 
 pub speed_last : Last GoodSpeed speed_text speed_at
 unfolding speed_at
 speed_last = record {
   once = once;
-  found = λ line at h. speed-ends line at (drop at line) (omega (arith, length-drop at line, h));
+  found = λ line at h. speed_ends line at (drop at line) (omega (arith, length-drop at line, h));
 }

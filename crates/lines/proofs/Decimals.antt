@@ -89,8 +89,8 @@ behind_number t v more s ht hv e = here s (sym (up_to_decimal v hv s) ∙ ap (up
     back : (c : ℕ) → 48 ≤ c → c ≡ 48 + (c - 48)
     back c h = omega arith
 
-    some-digit : (c : ℕ) (cs : List ℕ) → s ≡ c ∷ cs → 48 ≤ c → 0 < v
-    some-digit c cs i h =
+    some_digit : (c : ℕ) (cs : List ℕ) → s ≡ c ∷ cs → 48 ≤ c → 0 < v
+    some_digit c cs i h =
         ⊎_elim
         (λ (z : v < 1). absurd (omega (arith, (heads (sym i ∙ at_zero t ht more s (e ∙ ap (λ (x : ℕ). decimal x ++ s) (none z)))).0, h)))
         (λ (z : 1 ≤ v). z)
@@ -107,7 +107,7 @@ behind_number t v more s ht hv e = here s (sym (up_to_decimal v hv s) ∙ ap (up
           after = cs;
           is = ap (λ (x : ℕ). x ∷ cs) (back c r.0);
           low = omega (arith, r.0, r.1);
-          some = some-digit c cs i r.0;
+          some = some_digit c cs i r.0;
           within = omega (arith, up_to_ge (v * 10 + (c - 48)) cs, ap (λ (p : ℕ × List ℕ). p.0) q);
         })
     digits c cs i false h q = inl (sym (ap (λ (p : ℕ × List ℕ). p.0) q), ap (λ (p : ℕ × List ℕ). p.1) q)

@@ -4,8 +4,8 @@ use Rattle.std.proofs.lemmas.List.{drop_more, get_or-drop, get_or_past}
 use Rattle.std.proofs.lemmas.Bool.{cases_lt, eqb-true, eqb-false}
 use Rattle.lines.specs.Parts.{Reading, and_then, word_at, comma_at, field_from, field_at}
 use Rattle.lines.proofs.Fronts.{heads}
-use Rattle.lines.proofs.Sound.{Stops, Found, Sound, Having, sound_good, sound_read, sound-then}
-use Rattle.lines.proofs.Tables.{Among, prefix_free, words-sound}
+use Rattle.lines.proofs.Sound.{Stops, Found, Sound, Having, sound_good, sound_read, sound_then}
+use Rattle.lines.proofs.Tables.{Among, prefix_free, words_sound}
 
 abbrev Any : {A : Type 0} → A → Type 0
 Any a = Unit {0}
@@ -57,8 +57,8 @@ pub fields_sound : {A : Type 0} (word : A → List ℕ) (a : A) (others : List A
 unfolding field_at
 fields_sound {A} word a others free =
     sound_read (field_at word (a ∷ others)) same
-    (sound-then Any comma_text (λ x. Among x (a ∷ others)) word (λ x. tt) comma_sound (λ x g. tt) (λ u g. (a, (inl refl, refl)))
-    (λ u g. sound_good (Having (λ x. Among x (a ∷ others)) (λ x. tt) u) (λ x h. (h, refl)) (λ x h. h.0) (words-sound word (a ∷ others) free (omega arith))))
+    (sound_then Any comma_text (λ x. Among x (a ∷ others)) word (λ x. tt) comma_sound (λ x g. tt) (λ u g. (a, (inl refl, refl)))
+    (λ u g. sound_good (Having (λ x. Among x (a ∷ others)) (λ x. tt) u) (λ x h. (h, refl)) (λ x h. h.0) (words_sound word (a ∷ others) free (omega arith))))
   where
     same : (line : List ℕ) (at : ℕ) → and_then (comma_read line at) (λ u n. word_at word (a ∷ others) line n) ≡ field_from word (a ∷ others) line (comma_at line at)
     same line at = ways (eqb (get_or line at 0) 44)
@@ -73,4 +73,4 @@ field_sound word a others free every = sound_good (λ _. Unit {0}) (λ x h. tt) 
 
 -- a word whose table has every value
 pub word_sound : {A : Type 0} (word : A → List ℕ) (a : A) (others : List A) → prefix_free word (a ∷ others) ≡ true → ((x : A) → Among x (a ∷ others)) → Sound (λ _. Unit {0}) word (word_at word (a ∷ others))
-word_sound word a others free every = sound_good (λ _. Unit {0}) (λ x h. tt) (λ x h. every x) (words-sound word (a ∷ others) free (omega arith))
+word_sound word a others free every = sound_good (λ _. Unit {0}) (λ x h. tt) (λ x h. every x) (words_sound word (a ∷ others) free (omega arith))

@@ -20,8 +20,8 @@ module _ (limit : ℕ) (small : limit < 2 ^ 64) where
       ap (λ (p : ℕ × List ℕ). p.0) (sym (up_to_decimal a ha (44 ∷ s)) ∙ ap (up_to 0) here ∙ up_to_decimal b hb (44 ∷ t))
 
   -- the digits of v stand here, and what follows them is neither a comma nor a digit that goes on
-  digits-stop : (v : ℕ) → v ≤ limit → (cs : List ℕ) → ((more : List ℕ) → cs ≡ 44 ∷ more → ⊥) → ((t : ℕ) → t ≤ limit → Further t v cs → ⊥) → Stops Within with_comma (decimal v ++ cs) (length (decimal v))
-  digits-stop v good cs no_comma no_digit = record {
+  digits_stop : (v : ℕ) → v ≤ limit → (cs : List ℕ) → ((more : List ℕ) → cs ≡ 44 ∷ more → ⊥) → ((t : ℕ) → t ≤ limit → Further t v cs → ⊥) → Stops Within with_comma (decimal v ++ cs) (length (decimal v))
+  digits_stop v good cs no_comma no_digit = record {
     within = omega (arith, length-append (decimal v) cs);
     start = (v, 44 ∷ [], good, ap (λ (x : List ℕ). x ++ (44 ∷ [])) (sym (take_at (decimal v) cs (length (decimal v)) refl)));
     stray = λ h t more g e. stray cs (λ x. no_comma x) no_digit h t more g e;
@@ -49,21 +49,21 @@ module _ (limit : ℕ) (small : limit < 2 ^ 64) where
       let q = and_parts (ltb 0 v) (leb (v * 10 + (c - 48)) limit) p.1 in
       (p.0, ltb-true 0 v q.0, leb-true (v * 10 + (c - 48)) limit q.1)
 
-  further-goes : (t v c : ℕ) (cs : List ℕ) → t ≤ limit → Further t v (c ∷ cs) → goes_on limit v c ≡ true
-  further-goes t v c cs g f = ap (goes_on limit v) (heads f.is).0 ∙ and_from (digit (48 + f.d)) (ltb 0 v && leb (v * 10 + ((48 + f.d) - 48)) limit) (digit_is f.d f.low) (and_from (ltb 0 v) (leb (v * 10 + ((48 + f.d) - 48)) limit) (lt-ltb 0 v f.some) (le-leb (v * 10 + ((48 + f.d) - 48)) limit (omega (arith, f.within, g))))
+  further_goes : (t v c : ℕ) (cs : List ℕ) → t ≤ limit → Further t v (c ∷ cs) → goes_on limit v c ≡ true
+  further_goes t v c cs g f = ap (goes_on limit v) (heads f.is).0 ∙ and_from (digit (48 + f.d)) (ltb 0 v && leb (v * 10 + ((48 + f.d) - 48)) limit) (digit_is f.d f.low) (and_from (ltb 0 v) (leb (v * 10 + ((48 + f.d) - 48)) limit) (lt-ltb 0 v f.some) (le-leb (v * 10 + ((48 + f.d) - 48)) limit (omega (arith, f.within, g))))
 
   -- with c the digits are those of a further number
   abbrev Goes : List ℕ → ℕ → ℕ → ℕ → List ℕ → ℕ → Type 0
   Goes line at v c cs n = (drop at line ≡ decimal (v * 10 + (c - 48)) ++ cs) × (n + 1 ≡ at + length (decimal (v * 10 + (c - 48))))
 
   -- the digits of v stand at this place, and the reading goes on behind them
-  digits-found : (line : List ℕ) (at v : ℕ) → v ≤ limit → (cs : List ℕ) (n : ℕ) → drop at line ≡ decimal v ++ cs → n ≡ at + length (decimal v) → Found Within with_comma line at (digits_from limit v cs n)
-  digits-found line at v good [] n e i = record {
+  digits_found : (line : List ℕ) (at v : ℕ) → v ≤ limit → (cs : List ℕ) (n : ℕ) → drop at line ≡ decimal v ++ cs → n ≡ at + length (decimal v) → Found Within with_comma line at (digits_from limit v cs n)
+  digits_found line at v good [] n e i = record {
     q = length (decimal v);
     place = i;
-    stops = subst (λ (x : List ℕ). Stops Within with_comma x (length (decimal v))) (sym e) (digits-stop v good [] (λ more z. nil_cons z) (λ t l f. nil_cons f.is));
+    stops = subst (λ (x : List ℕ). Stops Within with_comma x (length (decimal v))) (sym e) (digits_stop v good [] (λ more z. nil_cons z) (λ t l f. nil_cons f.is));
   }
-  digits-found line at v good (c ∷ cs) n e i = ways (λ w l. digits-found line at (v * 10 + (c - 48)) l cs (n + 1) w.0 w.1) (goes_on limit v c) refl (eqb c 44) refl
+  digits_found line at v good (c ∷ cs) n e i = ways (λ w l. digits_found line at (v * 10 + (c - 48)) l cs (n + 1) w.0 w.1) (goes_on limit v c) refl (eqb c 44) refl
     where
       goes : digit c ≡ true → 0 < v → v * 10 + (c - 48) ≤ limit → Goes line at v c cs n
       goes d some l =
@@ -96,7 +96,7 @@ module _ (limit : ℕ) (small : limit < 2 ^ 64) where
       ways on false h false z = record {
         q = length (decimal v);
         place = i;
-        stops = subst (λ (x : List ℕ). Stops Within with_comma x (length (decimal v))) (sym e) (digits-stop v good (c ∷ cs) (λ more y. eqb-false c 44 z (heads y).0) (λ t l f. both_ways (goes_on limit v c) h (further-goes t v c cs l f)));
+        stops = subst (λ (x : List ℕ). Stops Within with_comma x (length (decimal v))) (sym e) (digits_stop v good (c ∷ cs) (λ more y. eqb-false c 44 z (heads y).0) (λ t l f. both_ways (goes_on limit v c) h (further_goes t v c cs l f)));
       }
 
   -- the first byte of a number is a digit, and its value is within the number
@@ -115,11 +115,11 @@ module _ (limit : ℕ) (small : limit < 2 ^ 64) where
 
   -- no number begins so
   no_number : (left : List ℕ) → ((c : ℕ) (cs : List ℕ) → left ≡ c ∷ cs → (digit c && leb (c - 48) limit) ≡ false) → Stops Within with_comma left 0
-  no_number left stops-here = record {
+  no_number left stops_here = record {
     within = omega arith;
     start = (0, with_comma 0, omega arith, refl);
-    stray = λ h t more g e. stray left stops-here h t more g e;
-    none = λ t more g e. none left stops-here t more g (sym (append_assoc (decimal t) (44 ∷ []) more) ∙ sym e);
+    stray = λ h t more g e. stray left stops_here h t more g e;
+    none = λ t more g e. none left stops_here t more g (sym (append_assoc (decimal t) (44 ∷ []) more) ∙ sym e);
   }
     where
       none : (xs : List ℕ) → ((c : ℕ) (cs : List ℕ) → xs ≡ c ∷ cs → (digit c && leb (c - 48) limit) ≡ false) → (t : ℕ) (more : List ℕ) → t ≤ limit → decimal t ++ (44 ∷ more) ≡ xs → ⊥
@@ -130,9 +130,9 @@ module _ (limit : ℕ) (small : limit < 2 ^ 64) where
       stray [] bad h t more g e = omega arith
       stray (c ∷ cs) bad h t more g e = both_ways (digit c && leb (c - 48) limit) (bad c cs refl) (first_digit t c [] more g e)
 
-  number-found : (line : List ℕ) (at : ℕ) (left : List ℕ) → drop at line ≡ left → Found Within with_comma line at (number_from limit left at)
-  number-found line at [] e = record { q = 0; place = sym (add-zero at); stops = no_number (drop at line) (λ c cs i. absurd (nil_cons (sym e ∙ i))) }
-  number-found line at (c ∷ cs) e = ways (digit c && leb (c - 48) limit) refl
+  number_found : (line : List ℕ) (at : ℕ) (left : List ℕ) → drop at line ≡ left → Found Within with_comma line at (number_from limit left at)
+  number_found line at [] e = record { q = 0; place = sym (add-zero at); stops = no_number (drop at line) (λ c cs i. absurd (nil_cons (sym e ∙ i))) }
+  number_found line at (c ∷ cs) e = ways (digit c && leb (c - 48) limit) refl
     where
       first : (48 ≤ c) × (c ≤ 57) → decimal (c - 48) ≡ c ∷ []
       first r = decimal_digit (c - 48) (omega (arith, r.0, r.1)) ∙ ap (λ (x : ℕ). x ∷ []) (back c r.0)
@@ -144,16 +144,16 @@ module _ (limit : ℕ) (small : limit < 2 ^ 64) where
       ways true h =
           let p = and_parts (digit c) (leb (c - 48) limit) h in
           let f = first (digit_range c p.0) in
-          digits-found line at (c - 48) (leb-true (c - 48) limit p.1) cs (at + 1) (e ∙ ap (λ (x : List ℕ). x ++ cs) (sym f)) (ap (λ (x : List ℕ). at + length x) (sym f))
+          digits_found line at (c - 48) (leb-true (c - 48) limit p.1) cs (at + 1) (e ∙ ap (λ (x : List ℕ). x ++ cs) (sym f)) (ap (λ (x : List ℕ). at + length x) (sym f))
       ways false h = record { q = 0; place = sym (add-zero at); stops = no_number (drop at line) (λ d ds i. ap (λ (x : ℕ). digit x && leb (x - 48) limit) (heads (sym i ∙ e)).0 ∙ h) }
 
-  pub numbers-sound : Sound Within with_comma (number_at limit)
+  pub numbers_sound : Sound Within with_comma (number_at limit)
   unfolding number_at
-  numbers-sound = record {
+  numbers_sound = record {
     apart = numbers_apart;
-    found = λ line at. number-found line at (drop at line) refl;
+    found = λ line at. number_found line at (drop at line) refl;
   }
 
   -- a number that was read is within the limit
-  pub number-within : (line : List ℕ) (at n m : ℕ) → Ok (n, m) ≡ number_at limit line at → n ≤ limit
-  number-within line at n m e = (subst (λ (r : Reading ℕ). Found Within with_comma line at r) (sym e) (numbers-sound.found line at)).good
+  pub number_within : (line : List ℕ) (at n m : ℕ) → Ok (n, m) ≡ number_at limit line at → n ≤ limit
+  number_within line at n m e = (subst (λ (r : Reading ℕ). Found Within with_comma line at r) (sym e) (numbers_sound.found line at)).good

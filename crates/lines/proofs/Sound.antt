@@ -132,8 +132,8 @@ module _ {A C : Type 0} (First : A → Type 0) (write : A → List ℕ) (Good : 
       (same, append_cancel_left (write a) (tail c ++ s) t (ap (λ (x : A). write x ++ (tail c ++ s)) (sym same) ∙ here))
 
   -- where the first part is found and the next stops, the whole stops
-  next-stops : Apart First write → ((c : C) → Good c → First (get c)) → (a : A) → First a → (left : List ℕ) (q : ℕ) → Stops (Having Good get a) tail left q → Stops Good in_row (write a ++ left) (length (write a) + q)
-  next-stops apart good a f left q s = record {
+  next_stops : Apart First write → ((c : C) → Good c → First (get c)) → (a : A) → First a → (left : List ℕ) (q : ℕ) → Stops (Having Good get a) tail left q → Stops Good in_row (write a ++ left) (length (write a) + q)
+  next_stops apart good a f left q s = record {
     within = omega (arith, length-append (write a) left, s.within);
     start =
         let z = s.start in
@@ -149,8 +149,8 @@ module _ {A C : Type 0} (First : A → Type 0) (write : A → List ℕ) (Good : 
       cut : (n : ℕ) → take (length (write a) + n) (write a ++ left) ≡ write a ++ take n left
       cut n = take_past (write a) left n
 
-  pub sound-then : {read : List ℕ → ℕ → Reading A} {follow : A → List ℕ → ℕ → Reading C} → Sound First write read → ((c : C) → Good c → First (get c)) → ((a : A) → First a → (c : C) × Having Good get a c) → ((a : A) → First a → Sound (Having Good get a) tail (follow a)) → Sound Good in_row (λ line at. and_then (read line at) (λ a n. follow a line n))
-  sound-then {read} {follow} first good fill rest = record {
+  pub sound_then : {read : List ℕ → ℕ → Reading A} {follow : A → List ℕ → ℕ → Reading C} → Sound First write read → ((c : C) → Good c → First (get c)) → ((a : A) → First a → (c : C) × Having Good get a c) → ((a : A) → First a → Sound (Having Good get a) tail (follow a)) → Sound Good in_row (λ line at. and_then (read line at) (λ a n. follow a line n))
+  sound_then {read} {follow} first good fill rest = record {
     apart = λ c d s t gc gd e.
         let b = behind first.apart good (get d) (good d gd) c gc s (tail d ++ t) (e ∙ append_assoc (write (get d)) (tail d) t) in
         (rest (get d) (good d gd)).apart c d s t (gc, b.0) (gd, refl) b.1;
@@ -166,7 +166,7 @@ module _ {A C : Type 0} (First : A → Type 0) (write : A → List ℕ) (Good : 
       after line at a n t (Err p) f = record {
         q = length (write a) + f.q;
         place = f.place ∙ ap (λ (m : ℕ). m + f.q) t.next ∙ add_assoc at (length (write a)) f.q;
-        stops = subst (λ (x : List ℕ). Stops Good in_row x (length (write a) + f.q)) (sym t.split) (next-stops first.apart good a t.good (drop n line) f.q f.stops);
+        stops = subst (λ (x : List ℕ). Stops Good in_row x (length (write a) + f.q)) (sym t.split) (next_stops first.apart good a t.good (drop n line) f.q f.stops);
       }
 
       found : (line : List ℕ) (at : ℕ) (r : Reading A) → Found First write line at r → Found Good in_row line at (and_then r (λ a n. follow a line n))

@@ -63,8 +63,8 @@ module _ {A : Type 0} (Good : A → Type 0) (write : A → List ℕ) where
       tells (Err p) f = subst (λ (n : ℕ). IllegalAt (LineOf Good write) line n) (sym (f.place ∙ zero-add f.q)) (stopped line f.q f.stops)
 
   -- what is written reads back
-  pub whole-reads-back : {read : List ℕ → ℕ → Reading A} → Sound Good write read → (a : A) → Good a → ended (write a) (read (write a) 0) ≡ Ok a
-  whole-reads-back {read} s a g = back (ended (write a) (read (write a) 0)) (whole_tells s (write a))
+  pub whole_reads_back : {read : List ℕ → ℕ → Reading A} → Sound Good write read → (a : A) → Good a → ended (write a) (read (write a) 0) ≡ Ok a
+  whole_reads_back {read} s a g = back (ended (write a) (read (write a) 0)) (whole_tells s (write a))
     where
       back : (r : Result A ℕ) → Tells Good write (write a) r → r ≡ Ok a
       back (Ok b) t = ap Ok (s.apart b a [] [] t.0 g (ap (λ (x : List ℕ). x ++ []) t.1))

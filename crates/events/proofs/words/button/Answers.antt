@@ -5,7 +5,7 @@ use Rattle.std.proofs.lemmas.Bool.{ne_eqb}
 use Rattle.events.specs.Reads.{buttons}
 use Rattle.events.specs.Texts.{button_text}
 use Rattle.events.proofs.Going.{two_here}
-use Rattle.events.proofs.Tables.{byte_here, only, stops-here, stuck, strange, strange-letter}
+use Rattle.events.proofs.Tables.{byte_here, only, stops_here, stuck, strange, strange_letter}
 use Rattle.events.proofs.words.button.Goals as goal
 use Rattle.events.proofs.words.button.Goals.{then-at-line-via-then-at-line, then-at-line-via-else-at-line+then-line-at-ne66}
 
@@ -14,10 +14,10 @@ returns-then-at-line c =
     let line = c.args.line.now in
     let at = c.args.at in
     elim c.then-at-line.branch [
-      | then-at-line-via-then-at-line w ↦ sym (stops-here button_text buttons line at w.if-at-line.true refl refl)
+      | then-at-line-via-then-at-line w ↦ sym (stops_here button_text buttons line at w.if-at-line.true refl refl)
       | then-at-line-via-else-at-line+then-line-at-ne66 w ↦
           let n : eqb (get_or line at 0) 66 ≡ false = ne_eqb (get_or line at 0) 66 w.if-line-at-ne66.true in
-          sym (strange-letter button_text buttons line at (simp n) (simp n) w.if-at-line.false)
+          sym (strange_letter button_text buttons line at (simp n) (simp n) w.if-at-line.false)
     ]
 
 pub returns-then-at-line-2 : goal.returns-then-at-line-2

@@ -1,21 +1,20 @@
 -- A telegram of the writer's form is what the writer writes for its reading.
-use Rattle.std.proofs.Common.{◌≡◌, ℕ, ◌+◌, ◌-◌, ◌^◌, ◌<◌, ◌≤◌, true, false, cond, ◌||◌, eqb, ltb, List, [], ◌∷◌, length, get_or, Ok, sym, refl, ap, ◌∙◌, ⊎_elim, arith}
+use Rattle.std.proofs.Common.{◌≡◌, ℕ, ◌+◌, ◌-◌, ◌^◌, ◌<◌, ◌≤◌, true, false, cond, ltb, List, Ok, sym, refl, ap, ◌∙◌, ⊎_elim, arith}
 use Rattle.std.proofs.lemmas.Bool.{cases_lt, cond-true, cond-false, lt-ltb, le-ltb, ne_eqb, or_from}
 use Rattle.telegram.proofs.Fields.{bit_below}
-use Rattle.telegram.specs.Bits.{bit, number, field}
+use Rattle.telegram.specs.Bits.{bit, field}
 use Rattle.balise.specs.Codes.{digits, value_of}
 use Rattle.telegram.specs.Headers.{header_in}
 use Rattle.balise.specs.Directions.{directions, direction_value}
-use Rattle.telegram.specs.Telegrams.{Reading}
 use Rattle.balise.specs.declared.code.Digit.TheVariants.{Zero}
 use Rattle.balise.specs.declared.header.Header.{Header}
 use Rattle.balise.specs.declared.packet.Direction.TheVariants.{Reverse}
 use Rattle.balise.specs.declared.packet.Tbl1Packet.{Tbl1Packet}
 use Rattle.writer.specs.Drafts.{asked}
-use Rattle.writer.specs.Layouts.{layout, all_fit, laid_bit, laid_bytes}
-use Rattle.writer.specs.RoundTrip.{draft_of, OfWritersForm, WritesBack}
+use Rattle.writer.specs.Layouts.{layout, all_fit, laid_bit}
+use Rattle.writer.specs.RoundTrip.{draft_of, WritesBack}
 use Rattle.writer.specs.declared.draft.Draft.{Draft}
-use Rattle.writer.proofs.Cuts.{widths, values, total, numbers, cut, laid_pad}
+use Rattle.writer.proofs.Cuts.{widths, values, total, cut, laid_pad}
 use Rattle.writer.proofs.FormParts.{Acceptable, CodeAt, reading_parts, packet_parts}
 use Rattle.writer.proofs.Numbers.{number_same}
 use Rattle.writer.proofs.ReadingBack.{Fields, bits_of_layout}
@@ -118,13 +117,13 @@ form_asked bytes plug h p a same c fit =
     ∙ cond-false _ _ _ (ne_eqb h.total 0 more)
     ∙ cond-false _ _ _ (le-ltb h.total h.position (omega (arith, a.within)))
     ∙ cond-false _ _ _ (ne_eqb (direction_value p.direction) 3 (λ e. not_three (direction_value p.direction) (field bytes 58 2) direction.0 direction.1 e))
-    ∙ cond-false _ _ _ (or_from (ltb 10 (value_of p.code.first)) (ltb 10 (value_of p.code.second)) (ten-most (value_of p.code.first) (field bytes 82 8) first.0 first.1) (ten-most (value_of p.code.second) (field bytes 90 8) second.0 second.1))
+    ∙ cond-false _ _ _ (or_from (ltb 10 (value_of p.code.first)) (ltb 10 (value_of p.code.second)) (ten_most (value_of p.code.first) (field bytes 82 8) first.0 first.1) (ten_most (value_of p.code.second) (field bytes 90 8) second.0 second.1))
   where
     not_three : (n m : ℕ) → n ≡ m → m < 3 → n ≡ 3 → ⊥
     not_three n m e l t = omega arith
 
-    ten-most : (n m : ℕ) → n ≡ m → m < 11 → ltb 10 n ≡ false
-    ten-most n m e l = le-ltb 10 n (omega arith)
+    ten_most : (n m : ℕ) → n ≡ m → m < 11 → ltb 10 n ≡ false
+    ten_most n m e l = le-ltb 10 n (omega arith)
 
 pub writes_back : WritesBack
 writes_back bytes plug r p o =

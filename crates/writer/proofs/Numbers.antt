@@ -1,9 +1,7 @@
 -- What follows of the numbers that bits make.
-use Rattle.std.proofs.Common.{◌≡◌, ℕ, zero, suc, ◌+◌, ◌-◌, ◌*◌, ◌/◌, ◌%◌, ◌^◌, ◌<◌, ◌≤◌, ◌⊎◌, sym, refl, ap, ◌∙◌, ap₂, ⊎_elim, add-zero, arith, pow_mono}
-use native.Mathlib.Nat.{pow-succ'}
-use Rattle.std.proofs.lemmas.Nat.{div_below, pow_pos, shr-shr, div-mul-add, mod-mul-add}
+use Rattle.std.proofs.Common.{◌≡◌, ℕ, zero, suc, ◌+◌, ◌-◌, ◌*◌, ◌/◌, ◌%◌, ◌^◌, ◌<◌, ◌≤◌, sym, refl, ap, ◌∙◌, ap₂, ⊎_elim, arith}
+use Rattle.std.proofs.lemmas.Nat.{div_below, pow_pos, shr-shr}
 use Rattle.std.proofs.lemmas.Bool.{cases_eq}
-use Rattle.telegram.proofs.Fields.{number_below}
 use Rattle.telegram.specs.Bits.{number}
 
 -- equal bits make equal numbers

@@ -1,5 +1,5 @@
 -- How the values of a telegram lie in its bits.
-use Rattle.std.specs.Prelude.{ℕ, ◌+◌, ◌-◌, ◌*◌, ◌/◌, ◌%◌, ◌^◌, Bool, true, cond, ◌&&◌, List, [], ◌∷◌, map, nat_lt}
+use Rattle.std.specs.Prelude.{ℕ, ◌-◌, ◌*◌, ◌/◌, ◌%◌, ◌^◌, Bool, true, cond, ◌&&◌, List, [], ◌∷◌, map, nat_lt}
 use Rattle.std.specs.List.{range_with_len}
 use Rattle.telegram.specs.Bits.{number}
 use Rattle.writer.specs.declared.draft.Draft.{Draft}

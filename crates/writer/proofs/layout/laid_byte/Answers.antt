@@ -1,5 +1,4 @@
-use Rattle.std.proofs.Common.{◌+◌, refl, add-one, arith}
-use Rattle.writer.specs.Layouts.{laid_bit}
+use Rattle.std.proofs.Common.{◌+◌, add-one, arith}
 use Rattle.writer.proofs.Laying.{laid_below, laid_room}
 use Rattle.writer.proofs.layout.laid_byte.Goals as goal
 

@@ -1,4 +1,4 @@
-use Rattle.std.proofs.Common.{ℕ, ◌*◌, List, set, ap, ◌∙◌, ap₂, arith, rules}
+use Rattle.std.proofs.Common.{ℕ, ◌*◌, List, set, ◌∙◌, ap₂, arith, rules}
 use Rattle.telegram.specs.Bits.{number}
 use Rattle.writer.specs.Layouts.{laid_bit, laid_bytes}
 use Rattle.writer.proofs.Laying.{filled_more}

@@ -105,10 +105,10 @@ further : (t u : Telegram) (before : List Telegram) (b : Bool)
 further t u before true = cond-true _ _ _ (same_self (group t))
 further t u before false =
     let o = open_after (group t) u before in
-    let with-codes : Codes → OpenGroup = λ codes. record { id = o.id; total = o.total; first = o.first; travel = direction (t ∷ (u ∷ before)); codes = codes } in
+    let with_codes : Codes → OpenGroup = λ codes. record { id = o.id; total = o.total; first = o.first; travel = direction (t ∷ (u ∷ before)); codes = codes } in
     cond-true _ _ _ (same_self (group t))
     ∙ closed_or_lem (gathered o t.header t.packets).travel (gathered o t.header t.packets) t.header
-    ∙ ap (λ (codes : Codes). leaves (direction (t ∷ (u ∷ before))) (with-codes codes) t.header) (sym (stored-++ no_codes (packets_of (u ∷ before)) t.packets))
+    ∙ ap (λ (codes : Codes). leaves (direction (t ∷ (u ∷ before))) (with_codes codes) t.header) (sym (stored-++ no_codes (packets_of (u ∷ before)) t.packets))
 
 -- what a telegram leaves is what the visit tells
 pub hear : (t : Telegram) (m : Memory) (before : List Telegram) → Tracks (group t) m before → hears m t ≡ told t before

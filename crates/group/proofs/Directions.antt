@@ -95,14 +95,14 @@ settled_goes : (telegrams : List Telegram) (d : Travel) → direction telegrams 
 settled_goes [] d e = absurd (none_some d e)
 settled_goes (t ∷ before) d e = go (direction before) refl e (settled_goes before d)
   where
-    later-goes : Goes d before → Goes d (t ∷ before)
-    later-goes g = record { x = g.x; same = g.same; y = g.y; later = t ∷ g.later; parts = ap (λ (l : List Telegram). t ∷ l) g.parts; level = g.level; beyond = g.beyond }
+    later_goes : Goes d before → Goes d (t ∷ before)
+    later_goes g = record { x = g.x; same = g.same; y = g.y; later = t ∷ g.later; parts = ap (λ (l : List Telegram). t ∷ l) g.parts; level = g.level; beyond = g.beyond }
 
     start : settled None (first_of t before).header.position t.header.position ≡ Some d → before ≡ [] → Goes d (t ∷ before)
     start k p = absurd (none_some d (sym (alone t) ∙ ap (λ (l : List Telegram). settled None (first_of t l).header.position t.header.position) (sym p) ∙ k))
 
-    now-goes : settled None (first_of t before).header.position t.header.position ≡ Some d → Level before → Goes d (t ∷ before)
-    now-goes k l = record {
+    now_goes : settled None (first_of t before).header.position t.header.position ≡ Some d → Level before → Goes d (t ∷ before)
+    now_goes k l = record {
       x = l.x;
       same = l.same;
       y = t;
@@ -113,8 +113,8 @@ settled_goes (t ∷ before) d e = go (direction before) refl e (settled_goes bef
     }
 
     go : (o : Option Travel) → direction before ≡ o → settled o (first_of t before).header.position t.header.position ≡ Some d → (direction before ≡ Some d → Goes d before) → Goes d (t ∷ before)
-    go None p k ih = ⊎_elim (start k) (now-goes k) (none_level before p)
-    go (Some u) p k ih = later-goes (ih (p ∙ k))
+    go None p k ih = ⊎_elim (start k) (now_goes k) (none_level before p)
+    go (Some u) p k ih = later_goes (ih (p ∙ k))
 
 goes_settled : (telegrams : List Telegram) (d : Travel) → Goes d telegrams → direction telegrams ≡ Some d
 goes_settled telegrams d g =

@@ -53,12 +53,12 @@ numbers_laid (f ∷ fs) g at same fit =
     let w = f.width in
     let whole : w - w ≡ 0 = omega arith in
     let alone = value_bits f.value w w (ltb-true f.value (2 ^ w) parts.0) (omega arith) in
-    let first = number_same g (λ i. f.value / 2 ^ (w - 1 - i) % 2) at 0 w (λ i h. same i ∙ laid_in f fs i h ∙ ap (λ (n : ℕ). f.value / 2 ^ (w - 1 - n) % 2) (zero-first i)) in
+    let first = number_same g (λ i. f.value / 2 ^ (w - 1 - i) % 2) at 0 w (λ i h. same i ∙ laid_in f fs i h ∙ ap (λ (n : ℕ). f.value / 2 ^ (w - 1 - n) % 2) (zero_first i)) in
     let one : f.value / 2 ^ (w - w) ≡ f.value = rw whole (omega arith) in
     ap₂ (λ (x : ℕ) (xs : List ℕ). x ∷ xs) (first ∙ alone ∙ one) (numbers_laid fs g (at + w) (λ i. ap g (behind w i) ∙ same (w + i) ∙ laid_skip f fs i) parts.1)
   where
-    zero-first : (i : ℕ) → i ≡ 0 + i
-    zero-first i = omega arith
+    zero_first : (i : ℕ) → i ≡ 0 + i
+    zero_first i = omega arith
 
     behind : (w i : ℕ) → at + w + i ≡ at + (w + i)
     behind w i = omega arith

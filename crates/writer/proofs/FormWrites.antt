@@ -117,13 +117,13 @@ form_asked bytes plug h p a same c fit =
     ∙ cond-false _ _ _ (ne_eqb h.total 0 more)
     ∙ cond-false _ _ _ (le-ltb h.total h.position (omega (arith, a.within)))
     ∙ cond-false _ _ _ (ne_eqb (direction_value p.direction) 3 (λ e. not_three (direction_value p.direction) (field bytes 58 2) direction.0 direction.1 e))
-    ∙ cond-false _ _ _ (or_from (ltb 10 (value_of p.code.first)) (ltb 10 (value_of p.code.second)) (ten-most (value_of p.code.first) (field bytes 82 8) first.0 first.1) (ten-most (value_of p.code.second) (field bytes 90 8) second.0 second.1))
+    ∙ cond-false _ _ _ (or_from (ltb 10 (value_of p.code.first)) (ltb 10 (value_of p.code.second)) (ten_most (value_of p.code.first) (field bytes 82 8) first.0 first.1) (ten_most (value_of p.code.second) (field bytes 90 8) second.0 second.1))
   where
     not_three : (n m : ℕ) → n ≡ m → m < 3 → n ≡ 3 → ⊥
     not_three n m e l t = omega arith
 
-    ten-most : (n m : ℕ) → n ≡ m → m < 11 → ltb 10 n ≡ false
-    ten-most n m e l = le-ltb 10 n (omega arith)
+    ten_most : (n m : ℕ) → n ≡ m → m < 11 → ltb 10 n ≡ false
+    ten_most n m e l = le-ltb 10 n (omega arith)
 
 pub writes_back : WritesBack
 writes_back bytes plug r p o =

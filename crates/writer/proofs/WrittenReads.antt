@@ -65,17 +65,17 @@ code_found bytes dir first second D F S d u f s =
 
 packet_same : (bytes : List ℕ) (d : Draft) → Askable d → Fields bytes d → packet_in bytes 50 50 210 ≡ Ok (Tbl1 (draft_packet d))
 packet_same bytes d a f =
-    let direction = slice_get-get_or directions d.direction Reverse (below-3 d.direction (field bytes 58 2) (field_below bytes 58 2) f.direction a.directed) in
-    let first = ap digit_of f.first ∙ slice_get-get_or digits d.first Zero (below-11 d.first a.first_digit) in
-    let second = ap digit_of f.second ∙ slice_get-get_or digits d.second Zero (below-11 d.second a.second_digit) in
+    let direction = slice_get-get_or directions d.direction Reverse (below_3 d.direction (field bytes 58 2) (field_below bytes 58 2) f.direction a.directed) in
+    let first = ap digit_of f.first ∙ slice_get-get_or digits d.first Zero (below_11 d.first a.first_digit) in
+    let second = ap digit_of f.second ∙ slice_get-get_or digits d.second Zero (below_11 d.second a.second_digit) in
     sym (packet_44 bytes 50 50 210 bytes 73 d.direction 48 refl refl (sym f.direction) (sym f.size) f.packet (omega arith) (omega arith) (omega arith))
     ∙ code_found bytes d.direction d.first d.second _ _ _ direction f.user first second
   where
-    below-3 : (n m : ℕ) → m < 2 ^ 2 → m ≡ n → (n ≡ 3 → ⊥) → n < 3
-    below-3 n m l e ne = omega arith
+    below_3 : (n m : ℕ) → m < 2 ^ 2 → m ≡ n → (n ≡ 3 → ⊥) → n < 3
+    below_3 n m l e ne = omega arith
 
-    below-11 : (n : ℕ) → n ≤ 10 → n < 11
-    below-11 n l = omega arith
+    below_11 : (n : ℕ) → n ≤ 10 → n < 11
+    below_11 n l = omega arith
 
 packets_same : (bytes : List ℕ) (p : Tbl1Packet) → length bytes ≡ 27 → packet_in bytes 50 50 210 ≡ Ok (Tbl1 p) → field bytes 98 8 ≡ 255 → packets_in bytes ≡ Ok (p ∷ [])
 packets_same bytes p size first end =

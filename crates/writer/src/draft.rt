@@ -34,6 +34,7 @@ pub struct Draft {
 
 impl Draft {
     /// Whether a question concerns one of the values.
+    #[tactic(auto, unfolding(crate::specs::Drafts::asked))]
     pub(crate) fn asked(self) -> Result<(), WriteFault>
         ensures { result ≡ asked self }
     {

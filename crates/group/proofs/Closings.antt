@@ -33,14 +33,14 @@ closed_stays (t ∷ later) telegrams e = or_left _ _ (closed_stays later telegra
 
 has_closed : (telegrams : List Telegram) → closed telegrams ≡ true → HasClosed telegrams
 has_closed [] e = absurd (false≢true e)
-has_closed (t ∷ before) e = ⊎_elim (λ k. later-closed (has_closed before k)) (now-closed (direction (t ∷ before)) refl) (or_cases _ _ e)
+has_closed (t ∷ before) e = ⊎_elim (λ k. later_closed (has_closed before k)) (now_closed (direction (t ∷ before)) refl) (or_cases _ _ e)
   where
-    later-closed : HasClosed before → HasClosed (t ∷ before)
-    later-closed c = record { d = c.d; t = c.t; before = c.before; later = t ∷ c.later; parts = ap (λ (l : List Telegram). t ∷ l) c.parts; ends = c.ends }
+    later_closed : HasClosed before → HasClosed (t ∷ before)
+    later_closed c = record { d = c.d; t = c.t; before = c.before; later = t ∷ c.later; parts = ap (λ (l : List Telegram). t ∷ l) c.parts; ends = c.ends }
 
-    now-closed : (o : Option Travel) → direction (t ∷ before) ≡ o → closes_in o t.header ≡ true → HasClosed (t ∷ before)
-    now-closed None k c = absurd (false≢true c)
-    now-closed (Some d) k c = record { d = d; t = t; before = before; later = []; parts = refl; ends = ((direction_goes (t ∷ before) d).0 k, closes_end d t c) }
+    now_closed : (o : Option Travel) → direction (t ∷ before) ≡ o → closes_in o t.header ≡ true → HasClosed (t ∷ before)
+    now_closed None k c = absurd (false≢true c)
+    now_closed (Some d) k c = record { d = d; t = t; before = before; later = []; parts = refl; ends = ((direction_goes (t ∷ before) d).0 k, closes_end d t c) }
 
 -- a telegram that ends a visit closes the group
 pub ends_closes : (d : Travel) (t : Telegram) (before : List Telegram) → EndsAt d t before → closed (t ∷ before) ≡ true

@@ -1,7 +1,7 @@
 -- The direction that the telegrams of a visit settle, against the first telegram with another N_PIG than the first.
 use Rattle.std.proofs.Common.{◌≡◌, ℕ, ◌⊎◌, ◌↔◌, List, [], ◌∷◌, ◌++◌, Some, None, Option, sym, refl, ap, ◌∙◌, inl, inr, ⊎_elim, arith}
 use Rattle.std.proofs.lemmas.Bool.Decides.{nat_tests}
-use Rattle.std.specs.List.{AllByRecursion as All}
+use Rattle.std.specs.List.{AllByRecursion}
 use Rattle.group.specs.GroupLaws.{Telegram, First, Beyond, Goes}
 use Rattle.group.specs.Groups.{settled}
 use Rattle.group.specs.declared.codes.Travel.{Travel}
@@ -55,9 +55,9 @@ record Level (telegrams : List Telegram) : Type 0 where
   pub x : Telegram
   pub same : List Telegram
   pub parts : telegrams ≡ same ++ (x ∷ [])
-  pub level : All (λ s. s.header.position ≡ x.header.position) same
+  pub level : AllByRecursion (λ s. s.header.position ≡ x.header.position) same
 
-level_none : (x : Telegram) (same : List Telegram) → All (λ s. s.header.position ≡ x.header.position) same → direction (same ++ (x ∷ [])) ≡ None
+level_none : (x : Telegram) (same : List Telegram) → AllByRecursion (λ s. s.header.position ≡ x.header.position) same → direction (same ++ (x ∷ [])) ≡ None
 level_none x [] l = alone x
 level_none x (s ∷ same) l =
     ap (λ (o : Option Travel). settled o (first_of s (same ++ (x ∷ []))).header.position s.header.position) (level_none x same l.1)
@@ -95,14 +95,14 @@ settled_goes : (telegrams : List Telegram) (d : Travel) → direction telegrams 
 settled_goes [] d e = absurd (none_some d e)
 settled_goes (t ∷ before) d e = go (direction before) refl e (settled_goes before d)
   where
-    later-goes : Goes d before → Goes d (t ∷ before)
-    later-goes g = record { x = g.x; same = g.same; y = g.y; later = t ∷ g.later; parts = ap (λ (l : List Telegram). t ∷ l) g.parts; level = g.level; beyond = g.beyond }
+    later_goes : Goes d before → Goes d (t ∷ before)
+    later_goes g = record { x = g.x; same = g.same; y = g.y; later = t ∷ g.later; parts = ap (λ (l : List Telegram). t ∷ l) g.parts; level = g.level; beyond = g.beyond }
 
     start : settled None (first_of t before).header.position t.header.position ≡ Some d → before ≡ [] → Goes d (t ∷ before)
     start k p = absurd (none_some d (sym (alone t) ∙ ap (λ (l : List Telegram). settled None (first_of t l).header.position t.header.position) (sym p) ∙ k))
 
-    now-goes : settled None (first_of t before).header.position t.header.position ≡ Some d → Level before → Goes d (t ∷ before)
-    now-goes k l = record {
+    now_goes : settled None (first_of t before).header.position t.header.position ≡ Some d → Level before → Goes d (t ∷ before)
+    now_goes k l = record {
       x = l.x;
       same = l.same;
       y = t;
@@ -113,8 +113,8 @@ settled_goes (t ∷ before) d e = go (direction before) refl e (settled_goes bef
     }
 
     go : (o : Option Travel) → direction before ≡ o → settled o (first_of t before).header.position t.header.position ≡ Some d → (direction before ≡ Some d → Goes d before) → Goes d (t ∷ before)
-    go None p k ih = ⊎_elim (start k) (now-goes k) (none_level before p)
-    go (Some u) p k ih = later-goes (ih (p ∙ k))
+    go None p k ih = ⊎_elim (start k) (now_goes k) (none_level before p)
+    go (Some u) p k ih = later_goes (ih (p ∙ k))
 
 goes_settled : (telegrams : List Telegram) (d : Travel) → Goes d telegrams → direction telegrams ≡ Some d
 goes_settled telegrams d g =

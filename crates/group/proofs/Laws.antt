@@ -1,7 +1,7 @@
 -- The laws of the group memory.
 use Rattle.std.proofs.Common.{◌≡◌, ℕ, Bool, true, false, cond, ◌||◌, List, [], ◌∷◌, ◌++◌, Some, None, Option, sym, refl, ap, ◌∙◌, subst, arith}
 use Rattle.std.proofs.lemmas.Bool.{both_ways, cond-true, cond-false}
-use Rattle.std.specs.List.{AllByRecursion as All}
+use Rattle.std.specs.List.{AllByRecursion}
 use Rattle.balise.specs.declared.code.Code.{Code}
 use Rattle.balise.specs.declared.header.Header.{Header}
 use Rattle.balise.specs.declared.packet.Tbl1Packet.{Tbl1Packet}
@@ -77,15 +77,15 @@ told_closed t before e = ap (λ (b : Bool). record {
 
 closed_earlier : (m : Memory) (t : Telegram) (newer : List Happening) (y : Telegram) (older : List Happening)
     → m ≡ memory_after (newer ++ (Happening.telegram y ∷ older))
-    → All (IsOf (group y)) (Happening.telegram t ∷ newer)
+    → AllByRecursion (IsOf (group y)) (Happening.telegram t ∷ newer)
     → closed (y ∷ visit (group y) older) ≡ true
     → hears m t ≡ record { memory = Closed (group y); code = None }
 closed_earlier m t newer y older e a k =
     let past = newer ++ (Happening.telegram y ∷ older) in
     let longer = visit_longer (group y) newer (Happening.telegram y ∷ older) a.1 in
-    let from-y : visit (group y) (Happening.telegram y ∷ older) ≡ y ∷ visit (group y) older = cond-true _ _ _ (same_self (group y)) in
+    let from_y : visit (group y) (Happening.telegram y ∷ older) ≡ y ∷ visit (group y) older = cond-true _ _ _ (same_self (group y)) in
     let same : visit (group t) past ≡ longer.0 ++ (y ∷ visit (group y) older) =
-    ap (λ (g : GroupId). visit g past) a.0 ∙ longer.1 ∙ ap (λ (l : List Telegram). longer.0 ++ l) from-y in
+    ap (λ (g : GroupId). visit g past) a.0 ∙ longer.1 ∙ ap (λ (l : List Telegram). longer.0 ++ l) from_y in
     let is_closed : closed (visit (group t) past) ≡ true = ap closed same ∙ closed_stays longer.0 (y ∷ visit (group y) older) k in
     heard_after m t past e
     ∙ told_closed t (visit (group t) past) is_closed
@@ -128,7 +128,7 @@ direction_stays m t newer older o p d e was known a now =
 -- all that is promised of what hearing a telegram leaves
 pub lawful : (m : Memory) (h : Header) (ps : List Tbl1Packet) (r : Heard) → r ≡ heard m h ps → record {
   value : r ≡ heard m h ps;
-  run-goes-on : RunGoesOn m (Happening.telegram (telegram_of h ps)) r.memory;
+  run_goes_on : RunGoesOn m (Happening.telegram (telegram_of h ps)) r.memory;
   gives_the_last_stored : GivesTheLastStored m (telegram_of h ps) r;
   tells_the_visit : TellsTheVisit m (telegram_of h ps) r;
   acts_once : ActsOnce m (telegram_of h ps) r;
@@ -139,7 +139,7 @@ lawful m h ps r is =
     let t = telegram_of h ps in
     record {
       value = is;
-      run-goes-on = λ past e. ap (λ (q : Heard). q.memory) is ∙ ap (λ (n : Memory). (hears n t).memory) e;
+      run_goes_on = λ past e. ap (λ (q : Heard). q.memory) is ∙ ap (λ (n : Memory). (hears n t).memory) e;
       gives_the_last_stored = subst (λ (q : Heard). GivesTheLastStored m t q) (sym is) (gives_the_last_stored m t);
       tells_the_visit = subst (λ (q : Heard). TellsTheVisit m t q) (sym is) (tells_the_visit m t);
       acts_once = subst (λ (q : Heard). ActsOnce m t q) (sym is) (acts_once m t);

@@ -1,7 +1,7 @@
 -- The direction that the telegrams of a visit settle, against the first telegram with another N_PIG than the first.
 use Rattle.std.proofs.Common.{◌≡◌, ℕ, ◌⊎◌, ◌↔◌, List, [], ◌∷◌, ◌++◌, Some, None, Option, sym, refl, ap, ◌∙◌, inl, inr, ⊎_elim, arith}
 use Rattle.std.proofs.lemmas.Bool.Decides.{nat_tests}
-use Rattle.std.specs.List.{AllByRecursion as All}
+use Rattle.std.specs.List.{AllByRecursion}
 use Rattle.group.specs.GroupLaws.{Telegram, First, Beyond, Goes}
 use Rattle.group.specs.Groups.{settled}
 use Rattle.group.specs.declared.codes.Travel.{Travel}
@@ -55,9 +55,9 @@ record Level (telegrams : List Telegram) : Type 0 where
   pub x : Telegram
   pub same : List Telegram
   pub parts : telegrams ≡ same ++ (x ∷ [])
-  pub level : All (λ s. s.header.position ≡ x.header.position) same
+  pub level : AllByRecursion (λ s. s.header.position ≡ x.header.position) same
 
-level_none : (x : Telegram) (same : List Telegram) → All (λ s. s.header.position ≡ x.header.position) same → direction (same ++ (x ∷ [])) ≡ None
+level_none : (x : Telegram) (same : List Telegram) → AllByRecursion (λ s. s.header.position ≡ x.header.position) same → direction (same ++ (x ∷ [])) ≡ None
 level_none x [] l = alone x
 level_none x (s ∷ same) l =
     ap (λ (o : Option Travel). settled o (first_of s (same ++ (x ∷ []))).header.position s.header.position) (level_none x same l.1)

@@ -1,7 +1,7 @@
 -- The laws of the group memory.
 use Rattle.std.proofs.Common.{◌≡◌, ℕ, Bool, true, false, cond, ◌||◌, List, [], ◌∷◌, ◌++◌, Some, None, Option, sym, refl, ap, ◌∙◌, subst, arith}
 use Rattle.std.proofs.lemmas.Bool.{both_ways, cond-true, cond-false}
-use Rattle.std.specs.List.{AllByRecursion as All}
+use Rattle.std.specs.List.{AllByRecursion}
 use Rattle.balise.specs.declared.code.Code.{Code}
 use Rattle.balise.specs.declared.header.Header.{Header}
 use Rattle.balise.specs.declared.packet.Tbl1Packet.{Tbl1Packet}
@@ -77,7 +77,7 @@ told_closed t before e = ap (λ (b : Bool). record {
 
 closed_earlier : (m : Memory) (t : Telegram) (newer : List Happening) (y : Telegram) (older : List Happening)
     → m ≡ memory_after (newer ++ (Happening.telegram y ∷ older))
-    → All (IsOf (group y)) (Happening.telegram t ∷ newer)
+    → AllByRecursion (IsOf (group y)) (Happening.telegram t ∷ newer)
     → closed (y ∷ visit (group y) older) ≡ true
     → hears m t ≡ record { memory = Closed (group y); code = None }
 closed_earlier m t newer y older e a k =

@@ -1,7 +1,7 @@
 -- The codes that packets store, against the last that was stored.
 use Rattle.std.proofs.Common.{◌≡◌, ℕ, Bool, true, false, cond, ◌⊎◌, ◌↔◌, List, [], ◌∷◌, ◌++◌, Some, None, sym, refl, ap, ◌∙◌, inl, inr, ⊎_elim, arith}
 use Rattle.std.proofs.lemmas.Bool.{cond-true, cond-false}
-use Rattle.std.specs.List.{AllByRecursion as All}
+use Rattle.std.specs.List.{AllByRecursion}
 use Rattle.balise.specs.declared.code.Code.{Code}
 use Rattle.balise.specs.declared.packet.Tbl1Packet.{Tbl1Packet}
 use Rattle.group.specs.GroupLaws.{LastStored}
@@ -32,7 +32,7 @@ no_codes_lem Reverse = refl
 
 -- these packets store nothing for this direction
 abbrev Silent : Travel → List Tbl1Packet → Type 0
-Silent d ps = All (λ q. stores_for q.direction d ≡ false) ps
+Silent d ps = AllByRecursion (λ q. stores_for q.direction d ≡ false) ps
 
 silent_keeps : (d : Travel) (ps : List Tbl1Packet) (codes : Codes) → Silent d ps → code_for d (stored codes ps) ≡ code_for d codes
 silent_keeps d [] codes s = refl

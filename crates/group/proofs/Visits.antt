@@ -1,7 +1,7 @@
 -- The memory after a run, against the visit to its group.
 use Rattle.std.proofs.Common.{◌≡◌, ℕ, Bool, true, false, cond, ◌||◌, List, [], ◌∷◌, ◌++◌, Some, None, Option, sym, refl, ap, ◌∙◌, subst, ⊎_elim}
 use Rattle.std.proofs.lemmas.Bool.{both_ways, cases_Bool, cond-true, cond-false, cond_both, and_parts, and_from, eqb-true, eq-eqb}
-use Rattle.std.specs.List.{AllByRecursion as All}
+use Rattle.std.specs.List.{AllByRecursion}
 use Rattle.balise.specs.declared.code.Code.{Code}
 use Rattle.balise.specs.declared.header.Header.{Header}
 use Rattle.group.specs.GroupLaws.{Telegram, Happening, hears, memory_after, IsOf, visit, packets_of}
@@ -142,7 +142,7 @@ pub heard_after : (m : Memory) (t : Telegram) (past : List Happening) → m ≡ 
 heard_after m t past e = ap (λ (n : Memory). hears n t) e ∙ hear t (memory_after past) (visit (group t) past) (tracks (group t) past)
 
 -- telegrams of the group lengthen its visit
-pub visit_longer : (g : GroupId) (newer older : List Happening) → All (IsOf g) newer → (later : List Telegram) × (visit g (newer ++ older) ≡ later ++ visit g older)
+pub visit_longer : (g : GroupId) (newer older : List Happening) → AllByRecursion (IsOf g) newer → (later : List Telegram) × (visit g (newer ++ older) ≡ later ++ visit g older)
 visit_longer g [] older a = ([], refl)
 visit_longer g (Happening.forgotten ∷ newer) older a = absurd a.0
 visit_longer g (Happening.telegram t ∷ newer) older a =

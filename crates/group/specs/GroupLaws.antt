@@ -1,6 +1,6 @@
 -- What the group memory and the codes that it gives say of what was heard, for every run of telegrams and forgettings.
 use Rattle.std.specs.Prelude.{◌≡◌, ◌<◌, true, false, cond, ◌↔◌, List, [], ◌∷◌, ◌++◌, Some, None, Err, Result}
-use Rattle.std.specs.List.{AllByRecursion as All}
+use Rattle.std.specs.List.{AllByRecursion}
 use Rattle.balise.specs.declared.code.Code.{Code}
 use Rattle.balise.specs.declared.faults.HeaderFault.{HeaderFault}
 use Rattle.balise.specs.declared.faults.HeaderFault.TheVariants.{OtherTotal}
@@ -69,7 +69,7 @@ pub record Goes (d : Travel) (telegrams : List Telegram) : Type 0 where
   pub y : Telegram
   pub later : List Telegram
   pub parts : telegrams ≡ later ++ (y ∷ (same ++ (x ∷ [])))
-  pub level : All (λ s. s.header.position ≡ x.header.position) same
+  pub level : AllByRecursion (λ s. s.header.position ≡ x.header.position) same
   pub beyond : Beyond d x y
 
 -- the last balise of a group: N_PIG equals N_TOTAL in the nominal direction, and is 0 in the reverse one
@@ -103,7 +103,7 @@ pub record LastStored (d : Travel) (c : Code) (packets : List Tbl1Packet) : Type
   pub parts : packets ≡ before ++ (p ∷ after)
   pub stores : stores_for p.direction d ≡ true
   pub code : p.code ≡ c
-  pub last : All (λ q. stores_for q.direction d ≡ false) after
+  pub last : AllByRecursion (λ q. stores_for q.direction d ≡ false) after
 
 -- t, heard after the telegrams before it, gives the code c: those had not closed the group, t comes from the last balise in the direction that is then known, and c is the last code that all of their packets, those of t included, stored for this direction
 pub record Gives (c : Code) (t : Telegram) (before : List Telegram) : Type 0 where
@@ -153,7 +153,7 @@ TellsTheVisit m t r = (past : List Happening) → m ≡ memory_after past → Te
 abbrev pub ActsOnce : Memory → Telegram → Heard → Type 0
 ActsOnce m t r = (newer : List Happening) (y : Telegram) (older : List Happening) (c : Code)
     → m ≡ memory_after (newer ++ (telegram y ∷ older))
-    → All (IsOf (group_of y.header)) (telegram t ∷ newer)
+    → AllByRecursion (IsOf (group_of y.header)) (telegram t ∷ newer)
     → (hears (memory_after older) y).code ≡ Some c
     → r.code ≡ None
 
@@ -161,7 +161,7 @@ ActsOnce m t r = (newer : List Happening) (y : Telegram) (older : List Happening
 abbrev pub StaysClosed : Memory → Telegram → Heard → Type 0
 StaysClosed m t r = (newer : List Happening) (y : Telegram) (older : List Happening)
     → m ≡ memory_after (newer ++ (telegram y ∷ older))
-    → All (IsOf (group_of y.header)) (telegram t ∷ newer)
+    → AllByRecursion (IsOf (group_of y.header)) (telegram t ∷ newer)
     → (hears (memory_after older) y).memory ≡ Closed (group_of y.header)
     → (r.memory ≡ Closed (group_of y.header)) × (r.code ≡ None)
 
@@ -171,7 +171,7 @@ DirectionStays m t r = (newer older : List Happening) (o p : OpenGroup) (d : Tra
     → m ≡ memory_after (newer ++ older)
     → memory_after older ≡ Open o
     → o.travel ≡ Some d
-    → All (IsOf o.id) (telegram t ∷ newer)
+    → AllByRecursion (IsOf o.id) (telegram t ∷ newer)
     → r.memory ≡ Open p
     → p.travel ≡ Some d
 

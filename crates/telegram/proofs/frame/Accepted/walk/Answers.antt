@@ -15,7 +15,7 @@ turned : (c : After-read_packet) (found : Result Found PacketFault) → c.read_p
     → behind (packets_of c.loop-turn.list) (packets_by found c.loop-turn.at (λ next. packets_from (34 - (c.loop-turn.turn + 1)) c.args.self.now.bytes.now next c.telegram_bits-end.result))
     ≡ packets_from 34 c.args.self.now.bytes.now 50 c.telegram_bits-end.result
 turned c found is =
-    turn_found c.args.self.now.bytes.now c.loop-turn.at c.telegram_bits-end.result 34 c.loop-turn.turn (packets_of c.loop-turn.list) _ c.read_packet.result found c.loop-turn.invariant.0 c.loop-turn-test.true c.if-at-end.false c.read_packet.ensures.value is
+    turn_found c.args.self.now.bytes.now c.loop-turn.at c.telegram_bits-end.result 34 c.loop-turn.turn (packets_of c.loop-turn.list) _ c.read_packet.result found c.loop-turn.invariant.0 c.loop-turn-test.true (omega arith) c.read_packet.ensures.value is
 
 pub returns-then-at-end : goal.returns-then-at-end
 returns-then-at-end c =

@@ -4,10 +4,10 @@ ghost use Rattle.balise.specs.Faults.{packet_refusal, header_refusal, frame_refu
 ghost use Rattle.balise.specs.declared.faults.FrameFault.TheVariants.{Header};
 ghost use Rattle.balise.specs.declared.faults.HeaderFault.TheVariants.{Packet};
 
-use refusal::{Layer, Refusal};
+use refusal::{Layer, Reason, Refusal};
 
 /// What is wrong with a packet, which begins at the bit `at` of its telegram.
-#[derive(Clone, Copy)]
+#[derive(Clone, Copy, PartialEq, Eq, Debug)]
 pub enum PacketFault {
     /// Fewer than 8 bits are left where a packet should begin: no packet 255 ended the telegram.
     NoEnd { at: usize },
@@ -26,7 +26,7 @@ pub enum PacketFault {
 }
 
 /// What is wrong with a header, or with what stands behind it.
-#[derive(Clone, Copy)]
+#[derive(Clone, Copy, PartialEq, Eq, Debug)]
 pub enum HeaderFault {
     /// Q_UPDOWN is not 1.
     Updown,
@@ -44,7 +44,7 @@ pub enum HeaderFault {
 }
 
 /// What is wrong with a telegram as the antenna hands it over, or with what stands in it.
-#[derive(Clone, Copy)]
+#[derive(Clone, Copy, PartialEq, Eq, Debug)]
 pub enum FrameFault {
     /// It has neither 27 nor 104 bytes.
     Length,
@@ -71,62 +71,62 @@ impl From<HeaderFault> for FrameFault {
     }
 }
 
-impl PacketFault {
-    /// Number, place and layer.
-    pub fn refusal(self) -> Refusal
-        ensures { result ≡ packet_refusal self }
-    {
-        let (number, place) = match self {
+/// Reason, place and layer.
+impl From<PacketFault> for Refusal {
+    ghost from_gives = { λ fault r. r ≡ packet_refusal fault };
+
+    fn from(fault: PacketFault) -> Refusal {
+        let (reason, place) = match fault {
             PacketFault::NoEnd { at }
             | PacketFault::PastEnd { at }
-            | PacketFault::TooShort { at } => (10, at),
+            | PacketFault::TooShort { at } => (Reason::Bounds, at),
             PacketFault::NoUser { at }
             | PacketFault::Direction { at }
             | PacketFault::CodeLength { at }
-            | PacketFault::Digit { at } => (11, at),
+            | PacketFault::Digit { at } => (Reason::Packet, at),
         };
         Refusal {
-            number,
+            reason,
             place,
             layer: Layer::Packet,
         }
     }
 }
 
-impl HeaderFault {
-    /// Number, place and layer.
-    pub fn refusal(self) -> Refusal
-        ensures { result ≡ header_refusal self }
-    {
-        let (number, place) = match self {
-            HeaderFault::Updown => (7, 0),
-            HeaderFault::Version => (7, 1),
-            HeaderFault::Media => (7, 8),
-            HeaderFault::NoTotal => (8, 12),
-            HeaderFault::Position => (8, 9),
-            HeaderFault::OtherTotal => (9, 12),
-            HeaderFault::Packet(packet) => return packet.refusal(),
+/// Reason, place and layer.
+impl From<HeaderFault> for Refusal {
+    ghost from_gives = { λ fault r. r ≡ header_refusal fault };
+
+    fn from(fault: HeaderFault) -> Refusal {
+        let (reason, place) = match fault {
+            HeaderFault::Updown => (Reason::Header, 0),
+            HeaderFault::Version => (Reason::Header, 1),
+            HeaderFault::Media => (Reason::Header, 8),
+            HeaderFault::NoTotal => (Reason::Position, 12),
+            HeaderFault::Position => (Reason::Position, 9),
+            HeaderFault::OtherTotal => (Reason::OtherTotal, 12),
+            HeaderFault::Packet(packet) => return packet.into(),
         };
         Refusal {
-            number,
+            reason,
             place,
             layer: Layer::Header,
         }
     }
 }
 
-impl FrameFault {
-    /// Number, place and layer.
-    pub fn refusal(self) -> Refusal
-        ensures { result ≡ frame_refusal self }
-    {
-        let number = match self {
-            FrameFault::Length | FrameFault::Closing => 5,
-            FrameFault::Crc => 6,
-            FrameFault::Header(header) => return header.refusal(),
+/// Reason, place and layer.
+impl From<FrameFault> for Refusal {
+    ghost from_gives = { λ fault r. r ≡ frame_refusal fault };
+
+    fn from(fault: FrameFault) -> Refusal {
+        let reason = match fault {
+            FrameFault::Length | FrameFault::Closing => Reason::Frame,
+            FrameFault::Crc => Reason::Crc,
+            FrameFault::Header(header) => return header.into(),
         };
         Refusal {
-            number,
+            reason,
             place: 0,
             layer: Layer::Frame,
         }

@@ -1,7 +1,7 @@
 // The header: the first 50 bits of a telegram.
 
 /// The ten fields of a header, in their order.
-#[derive(Clone, Copy)]
+#[derive(Clone, Copy, PartialEq, Eq, Debug)]
 pub struct Header {
     /// Q_UPDOWN: 1 from balise to train.
     pub updown: u16,

@@ -5,8 +5,10 @@ mod code;
 mod faults;
 mod header;
 mod packet;
+mod reception;
 
-pub use code::{Code, Digit};
+pub use code::{Code, Digit, NotADigit};
 pub use faults::{FrameFault, HeaderFault, PacketFault};
 pub use header::Header;
-pub use packet::{Direction, Tbl1Packet};
+pub use packet::{Direction, NoDirection, Tbl1Packet};
+pub use reception::Reception;

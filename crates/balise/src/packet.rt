@@ -1,11 +1,12 @@
 // What a TBL1+ packet says, and for which direction.
-ghost use Rattle.std.specs.Prelude.{◌≡◌};
-ghost use Rattle.balise.specs.Directions.{direction_of};
+ghost use Rattle.std.specs.Prelude.{Some};
+ghost use Rattle.balise.specs.Directions.{DirectionOf, direction_text, packet_text};
 
 use crate::code::Code;
+use std::fmt;
 
 /// For which direction of travel a packet holds: Q_DIR.
-#[derive(Clone, Copy)]
+#[derive(Clone, Copy, PartialEq, Eq, Debug)]
 pub enum Direction {
     Reverse,
     Nominal,
@@ -13,22 +14,50 @@ pub enum Direction {
 }
 
 /// A TBL1+ packet: packet 44 of user 13.
-#[derive(Clone, Copy)]
+#[derive(Clone, Copy, PartialEq, Eq, Debug)]
 pub struct Tbl1Packet {
     pub direction: Direction,
     pub code: Code,
 }
 
-impl Direction {
-    /// The direction that Q_DIR names; 3 names none.
-    pub fn new(value: u16) -> Option<Direction>
-        ensures { result ≡ direction_of value }
-    {
+/// A Q_DIR that names no direction: it is 3 or above.
+#[derive(Clone, Copy, PartialEq, Eq, Debug)]
+pub struct NoDirection(pub u16);
+
+impl TryFrom<u16> for Direction {
+    type Error = NoDirection;
+
+    ghost try_from_gives = { DirectionOf };
+
+    fn try_from(value: u16) -> Result<Direction, NoDirection> {
         match value {
-            0 => Some(Direction::Reverse),
-            1 => Some(Direction::Nominal),
-            2 => Some(Direction::Both),
-            _ => None,
+            0 => Ok(Direction::Reverse),
+            1 => Ok(Direction::Nominal),
+            2 => Ok(Direction::Both),
+            _ => Err(NoDirection(value)),
         }
+    }
+}
+
+/// The letter of a direction.
+impl fmt::Display for Direction {
+    ghost output = { λ direction. Some (direction_text direction) };
+
+    fn fmt<W: fmt::Write>(&self, f: &mut fmt::Formatter<W>) -> fmt::Result {
+        f.write_str(match self {
+            Direction::Nominal => "N",
+            Direction::Reverse => "R",
+            Direction::Both => "B",
+        })
+    }
+}
+
+/// The letter of its direction, and its code.
+impl fmt::Display for Tbl1Packet {
+    ghost output = { λ packet. Some (packet_text packet) };
+
+    fn fmt<W: fmt::Write>(&self, f: &mut fmt::Formatter<W>) -> fmt::Result {
+        let Tbl1Packet { direction, code } = *self;
+        write!(f, "{direction}{code}")
     }
 }

@@ -1,23 +1,19 @@
 // What happens to the unit.
-ghost use Rattle.std.specs.Prelude.{◌≡◌};
-ghost use Rattle.cab.specs.Events.{kind_of};
+ghost use Rattle.std.specs.Prelude.{◌≡◌, Some};
+ghost use Rattle.cab.specs.Events.{kind_of, pulse_text, lever_text, button_text};
 
-/// A speed as it is reported: whole km/h, or lost.
-#[derive(Clone, Copy)]
-pub enum Speed {
-    Lost,
-    Kmh(u16),
-}
+use balise::Reception;
+use std::fmt;
 
 /// What the crocodile's brush feels.
-#[derive(Clone, Copy)]
+#[derive(Clone, Copy, PartialEq, Eq, Debug)]
 pub enum Pulse {
     Restrictive,
     Clear,
 }
 
 /// The direction lever.
-#[derive(Clone, Copy)]
+#[derive(Clone, Copy, PartialEq, Eq, Debug)]
 pub enum Lever {
     Forward,
     Neutral,
@@ -25,7 +21,7 @@ pub enum Lever {
 }
 
 /// The driver's buttons.
-#[derive(Clone, Copy)]
+#[derive(Clone, Copy, PartialEq, Eq, Debug)]
 pub enum Button {
     /// Acknowledges.
     Bac,
@@ -46,17 +42,17 @@ pub enum Button {
 pub enum Event<'a> {
     /// Time goes on.
     Tick,
-    Speed(Speed),
+    /// The speed in whole km/h, `None` where it is lost.
+    Speed(Option<u16>),
     Pulse(Pulse),
     Lever(Lever),
     Press(Button),
     Release(Button),
-    /// A telegram, with the antenna's word on its CRC.
-    Telegram { crc_good: bool, bytes: &'a [u8] },
+    Telegram(Reception<'a>),
 }
 
 /// Of what kind an event is.
-#[derive(Clone, Copy)]
+#[derive(Clone, Copy, PartialEq, Eq, Debug)]
 pub enum Kind {
     Tick,
     Speed,
@@ -77,7 +73,48 @@ impl Event<'_> {
             Event::Pulse(_) => Kind::Pulse,
             Event::Lever(_) => Kind::Lever,
             Event::Press(_) | Event::Release(_) => Kind::Button,
-            Event::Telegram { .. } => Kind::Telegram,
+            Event::Telegram(_) => Kind::Telegram,
         }
+    }
+}
+
+/// What the brush felt, in a word.
+impl fmt::Display for Pulse {
+    ghost output = { λ pulse. Some (pulse_text pulse) };
+
+    fn fmt<W: fmt::Write>(&self, f: &mut fmt::Formatter<W>) -> fmt::Result {
+        f.write_str(match self {
+            Pulse::Restrictive => "restrictive",
+            Pulse::Clear => "clear",
+        })
+    }
+}
+
+/// The lever's position in a word.
+impl fmt::Display for Lever {
+    ghost output = { λ lever. Some (lever_text lever) };
+
+    fn fmt<W: fmt::Write>(&self, f: &mut fmt::Formatter<W>) -> fmt::Result {
+        f.write_str(match self {
+            Lever::Forward => "forward",
+            Lever::Neutral => "neutral",
+            Lever::Reverse => "reverse",
+        })
+    }
+}
+
+/// The button's name in capitals.
+impl fmt::Display for Button {
+    ghost output = { λ button. Some (button_text button) };
+
+    fn fmt<W: fmt::Write>(&self, f: &mut fmt::Formatter<W>) -> fmt::Result {
+        f.write_str(match self {
+            Button::Bac => "BAC",
+            Button::Bncv => "BNCV",
+            Button::Bcvr => "BCVR",
+            Button::Bfc => "BFC",
+            Button::Blj => "BLJ",
+            Button::Blr => "BLR",
+        })
     }
 }

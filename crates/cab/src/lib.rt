@@ -6,7 +6,7 @@ mod panel;
 mod record;
 mod time;
 
-pub use event::{Button, Event, Kind, Lever, Pulse, Speed};
-pub use panel::{Brake, Cause, Lamp, Mode, Panel};
+pub use event::{Button, Event, Kind, Lever, Pulse};
+pub use panel::{Cause, Lamp, Mode, Panel};
 pub use record::Record;
-pub use time::Time;
+pub use time::{Late, Time};

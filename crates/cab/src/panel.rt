@@ -1,9 +1,9 @@
 // What the panel shows.
-ghost use Rattle.std.specs.Prelude.{◌≡◌, Bool};
+ghost use Rattle.std.specs.Prelude.{◌≡◌};
 ghost use Rattle.cab.specs.Panels.{fed_by};
 
 /// Why the brake is demanded.
-#[derive(Clone, Copy)]
+#[derive(Clone, Copy, PartialEq, Eq, Debug)]
 pub enum Cause {
     /// A warning was not acknowledged in time.
     Overdue,
@@ -12,17 +12,8 @@ pub enum Cause {
     Stop,
 }
 
-/// The emergency brake valve as the panel tells it.
-#[derive(Clone, Copy)]
-pub enum Brake {
-    /// The valve is fed: no brake.
-    Fed,
-    /// A demand stands, and the valve is cut.
-    Demand(Cause),
-}
-
 /// The mode of the unit.
-#[derive(Clone, Copy)]
+#[derive(Clone, Copy, PartialEq, Eq, Debug)]
 pub enum Mode {
     /// No speed control.
     Ncv,
@@ -34,7 +25,7 @@ pub enum Mode {
     Memor,
 }
 
-#[derive(Clone, Copy)]
+#[derive(Clone, Copy, PartialEq, Eq, Debug)]
 pub enum Lamp {
     Dark,
     Steady,
@@ -42,9 +33,10 @@ pub enum Lamp {
 }
 
 /// What the driver sees, and in `gong` what he hears in this call.
-#[derive(Clone, Copy)]
+#[derive(Clone, Copy, PartialEq, Eq, Debug)]
 pub struct Panel {
-    pub brake: Brake,
+    /// The cause of the demand that stands, with the valve cut; `None` while the valve is fed.
+    pub brake: Option<Cause>,
     pub mode: Mode,
     /// Whether the crocodile is on.
     pub crocodile: bool,
@@ -55,11 +47,11 @@ pub struct Panel {
     pub gong: bool,
 }
 
-impl Brake {
+impl Panel {
     /// Whether the valve is fed.
-    pub fn is_fed(self) -> bool
-        ensures { result ≡ fed_by self }
+    pub fn is_fed(&self) -> bool
+        ensures { result ≡ fed_by self.now.brake }
     {
-        matches!(self, Brake::Fed)
+        self.brake.is_none()
     }
 }

@@ -1,40 +1,41 @@
 //! What a refused call gives back, whatever refused it.
 #![tactic(auto)]
 
-ghost use Rattle.std.specs.Prelude.{◌≡◌};
-ghost use Rattle.refusal.specs.Refusals.{layer_name};
+mod layer;
+mod reason;
 
-/// Where a fault was found.
-#[derive(Clone, Copy, PartialEq, Eq, Debug)]
-pub enum Layer {
-    Unit,
-    Frame,
-    Header,
-    Packet,
-    Log,
-    Text,
-}
+ghost use Rattle.std.specs.Prelude.{◌≡◌, Some};
+ghost use Rattle.refusal.specs.Refusals.{number_of, refusal_text};
 
-/// The number of the refusal, the place that it speaks of (a bit, a byte or an element, 0 where it has none), and its layer.
+pub use layer::Layer;
+pub use reason::Reason;
+use std::fmt;
+
+/// A refused call: why, at which place (a bit, a byte or an element, 0 where there is none), and in which layer.
 #[derive(Clone, Copy, PartialEq, Eq, Debug)]
 pub struct Refusal {
-    pub number: u8,
+    pub reason: Reason,
     pub place: usize,
     pub layer: Layer,
 }
 
-impl Layer {
-    /// The layer's name in small letters.
-    pub fn name(self) -> &'static str
-        ensures { result.now ≡ layer_name self }
+impl Refusal {
+    /// The number under which the call is refused.
+    pub fn number(self) -> u8
+        ensures { result ≡ number_of self.reason }
     {
-        match self {
-            Layer::Unit => "unit",
-            Layer::Frame => "frame",
-            Layer::Header => "header",
-            Layer::Packet => "packet",
-            Layer::Log => "log",
-            Layer::Text => "text",
-        }
+        self.reason.number()
+    }
+}
+
+/// `E`, then number, place and layer, each behind a comma.
+impl fmt::Display for Refusal {
+    ghost output = { λ refusal. Some (refusal_text refusal) };
+
+    fn fmt<W: fmt::Write>(&self, f: &mut fmt::Formatter<W>) -> fmt::Result {
+        let number = self.number();
+        let place = self.place;
+        let layer = self.layer;
+        write!(f, "E,{number},{place},{layer}")
     }
 }

@@ -1,33 +1,39 @@
 ghost use Rattle.std.specs.Prelude.{◌≡◌};
-ghost use Rattle.cab.specs.Times.{time_of, timed};
+ghost use Rattle.cab.specs.Times.{TimeOf};
 
-use super::Time;
+use super::{Late, Time};
 
 /// The latest time that a unit can hold.
 const LATEST: u64 = 2_000_000_000;
 
 impl Time {
-    /// The time of so many milliseconds, unless it is out of range.
-    pub fn new(ms: u64) -> Option<Time>
-        ensures { timed result ≡ time_of ms }
-    {
-        if ms > LATEST {
-            return None;
-        }
-        Some(Time { ms: ms as u32 })
-    }
-
     /// The moment of power-up.
     pub fn zero() -> Time
         ensures { result.ms ≡ 0 }
     {
         Time { ms: 0 }
     }
+}
 
-    /// The time in milliseconds.
-    pub fn ms(self) -> u32
-        ensures { result ≡ self.ms }
-    {
-        self.ms
+/// The time of so many milliseconds, unless it is out of range.
+impl TryFrom<u64> for Time {
+    type Error = Late;
+
+    ghost try_from_gives = { TimeOf };
+
+    fn try_from(ms: u64) -> Result<Time, Late> {
+        if ms > LATEST {
+            return Err(Late(ms));
+        }
+        Ok(Time { ms: ms as u32 })
+    }
+}
+
+/// The time in milliseconds.
+impl From<Time> for u32 {
+    ghost from_gives = { λ time ms. ms ≡ time.ms };
+
+    fn from(time: Time) -> u32 {
+        time.ms
     }
 }

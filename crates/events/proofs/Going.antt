@@ -4,8 +4,8 @@ use Rattle.cab.specs.declared.event.Speed.{Speed}
 use Rattle.cab.specs.declared.event.Speed.TheVariants.{Lost, Kmh}
 use Rattle.std.proofs.lemmas.List.{drop_more, drop_all, drop-drop, at_drop_more, at_drop_all}
 use Rattle.std.proofs.lemmas.Bool.{cond-true, cond-false, eq-eqb, ne_eqb}
-use Rattle.lines.specs.Parts.{Reading, and_then, alike, begins, digit}
-use Rattle.lines.proofs.Loops.{chose_some, chose_none}
+use Rattle.text.specs.Parts.{Reading, and_then, alike, begins, digit}
+use Rattle.text.proofs.Loops.{chose_some, chose_none}
 use Rattle.events.specs.Heard.{number, speed_of}
 use Rattle.events.specs.Reads.{digits_in, speed_from, speed_at, hex_value, in_front, pair_then, pairs_from, pairs_at}
 use Rattle.events.specs.Said.{Written, lost, digits}

@@ -2,10 +2,10 @@
 use Rattle.std.proofs.Common.{◌≡◌, ℕ, ◌+◌, ◌<◌, ◌≤◌, Bool, true, false, cond, eqb, List, [], ◌∷◌, ◌++◌, length, take, drop, Ok, Err, Result, sym, refl, ap, ◌∙◌, subst, ⊎_elim, append_assoc, append-nil, add-zero, add_assoc, zero-add, arith, length-append, length-drop}
 use Rattle.std.proofs.lemmas.List.{append_cancel_left, take-append-drop, drop_all}
 use Rattle.std.proofs.lemmas.Bool.{eqb-true, eqb-false}
-use Rattle.lines.specs.Legal.{LineOf, IllegalAt, Tells}
-use Rattle.lines.specs.Parts.{Reading, and_then, ended}
-use Rattle.lines.proofs.Fronts.{either_front, take_past}
-use Rattle.lines.proofs.Sound.{Apart, Stops, Takes, Found, Sound}
+use Rattle.text.specs.Legal.{LineOf, IllegalAt, Tells}
+use Rattle.text.specs.Parts.{Reading, and_then, ended}
+use Rattle.text.proofs.Fronts.{either_front, take_past}
+use Rattle.text.proofs.Sound.{Apart, Stops, Takes, Found, Sound}
 
 -- what is left of the line is the text of no good value, and q is the first byte that goes on with none, or the length
 pub record Breaks {A : Type 0} (Good : A → Type 0) (write : A → List ℕ) (left : List ℕ) (q : ℕ) : Type 0 where

@@ -9,14 +9,14 @@ use Rattle.cab.specs.declared.event.Lever.TheVariants.{Forward, Neutral, Reverse
 use Rattle.cab.specs.declared.event.Pulse.{Pulse}
 use Rattle.cab.specs.declared.event.Pulse.TheVariants.{Restrictive, Clear}
 use Rattle.lines.specs.Faults.{illegal_at}
-use Rattle.lines.specs.Legal.{Tells}
-use Rattle.lines.specs.Parts.{Reading, and_then, word_at, number_at}
+use Rattle.text.specs.Legal.{Tells}
+use Rattle.text.specs.Parts.{Reading, and_then, word_at, number_at}
 use Rattle.lines.specs.declared.faults.TextFault.{TextFault}
 use Rattle.lines.specs.declared.faults.TextFault.TheVariants.{Illegal, Short}
-use Rattle.lines.proofs.Decimals.{with_comma}
-use Rattle.lines.proofs.Numbers.{numbers_sound}
-use Rattle.lines.proofs.Sound.{Sound, sound_good}
-use Rattle.lines.proofs.Tables.{Among, words_sound}
+use Rattle.text.proofs.Decimals.{with_comma}
+use Rattle.text.proofs.Numbers.{numbers_sound}
+use Rattle.text.proofs.Sound.{Sound, sound_good}
+use Rattle.text.proofs.Tables.{Among, words_sound}
 use Rattle.events.specs.declared.line.EventLine.{EventLine}
 use Rattle.events.specs.Heard.{line_result, result_meant}
 use Rattle.events.specs.Law.{Lawful, ReadsBack}

@@ -1,8 +1,8 @@
 -- The bytes of a telegram are read as they are written.
 use Rattle.std.proofs.Common.{◌≡◌, ℕ, zero, suc, ◌+◌, ◌-◌, ◌*◌, ◌/◌, ◌%◌, ◌<◌, ◌≤◌, Bool, true, false, cond, ◌&&◌, eqb, ltb, leb, List, [], ◌∷◌, ◌++◌, length, take, drop, Some, None, Ok, Err, Option, Result, sym, refl, ap, ◌∙◌, subst, ⊎_elim, add-zero, arith, length-drop}
 use Rattle.std.proofs.lemmas.Bool.{and_from, and_parts, and_right, le-leb, lt-leb, leb-true, eq-eqb, cond-true, cond-false, cases_lt, lt-ltb, le-ltb}
-use Rattle.lines.specs.Parts.{Reading, ended, digit}
-use Rattle.lines.proofs.Fronts.{heads, nil_cons}
+use Rattle.text.specs.Parts.{Reading, ended, digit}
+use Rattle.text.proofs.Fronts.{heads, nil_cons}
 use Rattle.events.specs.Reads.{hex_value, in_front, pair_then, pairs_from, pairs_at}
 use Rattle.events.specs.Said.{Below}
 use Rattle.events.specs.Texts.{hex_digit, pairs_text}

@@ -2,9 +2,9 @@
 use Rattle.std.proofs.Common.{◌≡◌, ℕ, zero, suc, ◌+◌, ◌-◌, ◌<◌, ◌≤◌, Bool, true, false, cond, eqb, List, [], ◌∷◌, ◌++◌, map, length, take, drop, Ok, Err, sym, refl, ap, ◌∙◌, subst, append_assoc, append-nil, add-zero, arith, length-append, length-drop}
 use Rattle.std.proofs.lemmas.List.{take_at}
 use Rattle.std.proofs.lemmas.Bool.{eqb-true, eqb-false, eq-eqb, ne_eqb, both_ways, cond-true}
-use Rattle.lines.specs.Parts.{ended, digit}
-use Rattle.lines.proofs.Decimals.{digit_is, digit_range}
-use Rattle.lines.proofs.Fronts.{heads, nil_cons, take_past}
+use Rattle.text.specs.Parts.{ended, digit}
+use Rattle.text.proofs.Decimals.{digit_is, digit_range}
+use Rattle.text.proofs.Fronts.{heads, nil_cons, take_past}
 use Rattle.events.specs.Reads.{digits_in, speed_from, speed_at}
 use Rattle.events.specs.Said.{Below, Written, lost, digits, GoodSpeed}
 use Rattle.events.specs.Texts.{speed_text}

@@ -2,8 +2,8 @@
 use Rattle.std.proofs.Common.{◌≡◌, ℕ, suc, ◌+◌, ◌<◌, ◌≤◌, Bool, true, false, cond, ◌&&◌, eqb, ltb, List, [], ◌∷◌, ◌++◌, length, get_or, drop, Some, None, Ok, Err, Option, sym, refl, ap, ◌∙◌, add-zero, add_assoc, add-one, arith, length-append, drop-cons}
 use Rattle.std.proofs.lemmas.List.{drop_all}
 use Rattle.std.proofs.lemmas.Bool.{and_parts, ltb-true, eqb-true, eqb-false, eq-eqb, ne_eqb, cond-true, cond-false}
-use Rattle.lines.specs.Parts.{alike, begins, picked, reach, picked_at, word_at}
-use Rattle.lines.proofs.Tables.{clear}
+use Rattle.text.specs.Parts.{alike, begins, picked, reach, picked_at, word_at}
+use Rattle.text.proofs.Tables.{clear}
 use Rattle.events.specs.Steps.{word_here}
 
 -- the byte that stands here, and what is behind it

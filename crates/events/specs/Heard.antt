@@ -4,7 +4,7 @@ use Rattle.cab.specs.declared.event.Event.{Event}
 use Rattle.cab.specs.declared.event.Event.TheVariants as event
 use Rattle.cab.specs.declared.event.Speed.{Speed}
 use Rattle.cab.specs.declared.event.Speed.TheVariants.{Lost, Kmh}
-use Rattle.lines.specs.Parts.{Reading}
+use Rattle.text.specs.Parts.{Reading}
 use Rattle.events.specs.declared.line.EventLine.{EventLine}
 use Rattle.events.specs.declared.line.Saying.{Saying}
 use Rattle.events.specs.declared.line.Saying.TheVariants as saying

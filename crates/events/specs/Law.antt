@@ -1,6 +1,6 @@
 -- What a line that is read says of the line.
 use Rattle.std.specs.Prelude.{◌≡◌, ℕ, List, Ok, Err, Result}
-use Rattle.lines.specs.Legal.{LineOf, IllegalAt}
+use Rattle.text.specs.Legal.{LineOf, IllegalAt}
 use Rattle.lines.specs.declared.faults.TextFault.{TextFault}
 use Rattle.lines.specs.declared.faults.TextFault.TheVariants.{Illegal, Short}
 use Rattle.events.specs.declared.line.EventLine.{EventLine}

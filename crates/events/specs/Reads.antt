@@ -8,7 +8,7 @@ use Rattle.cab.specs.declared.event.Lever.{Lever}
 use Rattle.cab.specs.declared.event.Lever.TheVariants.{Forward, Neutral, Reverse}
 use Rattle.cab.specs.declared.event.Pulse.{Pulse}
 use Rattle.cab.specs.declared.event.Pulse.TheVariants.{Restrictive, Clear}
-use Rattle.lines.specs.Parts.{Reading, and_then, ended, word_at, number_at, digit}
+use Rattle.text.specs.Parts.{Reading, and_then, ended, word_at, number_at, digit}
 use Rattle.events.specs.Said.{Happening, tick, speed, pulse, lever, button, telegram, Written, lost, digits, Said}
 use Rattle.events.specs.Texts.{kind_text, pulse_text, lever_text, button_text, press_text, crc_text}
 

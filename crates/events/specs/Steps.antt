@@ -1,6 +1,6 @@
 -- What the reader's small steps give.
 use Rattle.std.specs.Prelude.{ℕ, ◌+◌, ◌-◌, cond, List, [], ◌∷◌, ◌++◌, length, Some, None, Ok, Err, Option}
-use Rattle.lines.specs.Parts.{Reading, alike, begins, digit}
+use Rattle.text.specs.Parts.{Reading, alike, begins, digit}
 use Rattle.events.specs.Reads.{hex_value}
 
 -- this word stands here, or the first byte that differs from it

@@ -1,7 +1,7 @@
 // The parts of an event line: its time, and what happened.
 ghost use Rattle.std.specs.Prelude.{◌≡◌, Ok};
 ghost use Rattle.cab.specs.declared.event.Kind.TheVariants.{Button, Telegram};
-ghost use Rattle.lines.specs.Parts.{and_then, opened, pushed, number_at};
+ghost use Rattle.text.specs.Parts.{and_then, opened, pushed, number_at};
 ghost use Rattle.events.specs.Heard.{meant, line_read};
 ghost use Rattle.events.specs.Reads.{rest_at};
 

@@ -1,6 +1,6 @@
 // What stands at the end of an event line: the digits of a speed, and the bytes of a telegram.
 ghost use Rattle.std.specs.Prelude.{◌≡◌, ◌+◌, ◌<◌, length, drop, IfSome, Ok};
-ghost use Rattle.lines.specs.Parts.{and_then};
+ghost use Rattle.text.specs.Parts.{and_then};
 ghost use Rattle.events.specs.Heard.{number, speed_of, bytes_read};
 ghost use Rattle.events.specs.Reads.{digits_in, speed_at, hex_value, pairs_at};
 ghost use Rattle.events.specs.Steps.{digit_value, digit_in, hex_in};

@@ -1,6 +1,6 @@
 // The words of an event line: each is read at a place of the line, and gives its value and the place behind it, or the place of the byte with which no word goes on.
 ghost use Rattle.std.specs.Prelude.{◌≡◌, ◌+◌, ◌<◌, length, drop, slice_index};
-ghost use Rattle.lines.specs.Parts.{word_at};
+ghost use Rattle.text.specs.Parts.{word_at};
 ghost use Rattle.events.specs.Reads.{kinds, pulses, levers, buttons, flags};
 ghost use Rattle.events.specs.Steps.{word_here};
 ghost use Rattle.events.specs.Texts.{kind_text, pulse_text, lever_text, button_text, press_text, crc_text};

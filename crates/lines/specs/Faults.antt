@@ -6,7 +6,7 @@ use Rattle.refusal.specs.Refusals.{refused}
 use Rattle.cab.specs.Records.{Entry, entry_of}
 use Rattle.cab.specs.declared.record.Record.{Record}
 use Rattle.cab.specs.declared.time.Time.{Time}
-use Rattle.lines.specs.Parts.{Reading}
+use Rattle.text.specs.Parts.{Reading}
 use Rattle.lines.specs.declared.faults.TextFault.{TextFault}
 use Rattle.lines.specs.declared.faults.TextFault.TheVariants.{Illegal, Short}
 

@@ -1,5 +1,5 @@
 use Rattle.std.proofs.Common.{◌≡◌, length, Err, sym, ap, ◌∙◌, arith}
-use Rattle.lines.proofs.Loops.{digits_more, digits_comma, digits_stray, digits_over, number_over, number_opens, number_stray}
+use Rattle.text.proofs.Loops.{digits_more, digits_comma, digits_stray, digits_over, number_over, number_opens, number_stray}
 use Rattle.events.proofs.parts.time.Goals as goal
 
 pub returns-then-line-eq0 : goal.returns-then-line-eq0

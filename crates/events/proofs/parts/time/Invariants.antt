@@ -1,5 +1,5 @@
 use Rattle.std.proofs.Common.{◌≡◌, drop}
-use Rattle.lines.specs.Parts.{number_at, digits_from}
+use Rattle.text.specs.Parts.{number_at, digits_from}
 use Rattle.events.proofs.parts.time.Given as goal
 
 -- what is left of the line goes on a number of this value

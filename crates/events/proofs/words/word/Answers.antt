@@ -1,5 +1,5 @@
 use Rattle.std.proofs.Common.{◌≡◌, drop, arith}
-use Rattle.lines.specs.Parts.{alike}
+use Rattle.text.specs.Parts.{alike}
 use Rattle.events.proofs.Going.{alike_step, alike_differs, alike_over, alike_past, word_stops, word_ends}
 use Rattle.events.proofs.words.word.Goals as goal
 use Rattle.events.proofs.words.word.Goals.{then-here-line-via-then-here-line, then-here-line-via-else-here-line+then-line-here}

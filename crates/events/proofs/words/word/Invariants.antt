@@ -1,5 +1,5 @@
 use Rattle.std.proofs.Common.{◌≡◌, ◌+◌, drop}
-use Rattle.lines.specs.Parts.{alike}
+use Rattle.text.specs.Parts.{alike}
 use Rattle.events.proofs.words.word.Given as goal
 
 abbrev pub invariant-loop-byte : goal.invariant-loop-byte

@@ -1,0 +1,9 @@
+pub mod Decimals
+pub mod Fields
+pub mod Fronts
+pub mod Loops
+pub mod Numbers
+pub mod Reading
+pub mod Sound
+pub mod Tables
+pub mod Whole

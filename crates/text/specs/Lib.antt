@@ -1,0 +1,4 @@
+pub mod Cursors
+pub mod Faults
+pub mod Legal
+pub mod Parts

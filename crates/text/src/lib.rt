@@ -1,0 +1,12 @@
+//! Lines of text: what they are read with, from left to right, and what is wrong with an illegal one.
+#![tactic(auto)]
+
+mod cursor;
+mod fault;
+
+mod word;
+
+pub use cursor::Cursor;
+pub use fault::{Illegal, TextFault};
+
+pub use word::Word;

@@ -1,10 +1,10 @@
 -- How the loops of the readers go on.
 use Rattle.std.proofs.Common.{◌≡◌, ℕ, suc, ◌+◌, ◌-◌, ◌*◌, ◌<◌, ◌≤◌, max, Bool, true, false, cond, ◌&&◌, eqb, leb, List, [], ◌∷◌, length, get_or, slice_get, unwrap_or, take, drop, Some, None, Ok, Err, Option, Result, sym, refl, ap, ◌∙◌, subst, ⊎_elim, arith}
 use Rattle.std.specs.List.{take_while, zip, prefix_len}
-use Rattle.std.proofs.lemmas.List.{drop-drop, drop_more, drop_all, get_or_past, at_drop_more, at_drop_all}
+use Rattle.std.proofs.lemmas.List.{drop-drop, drop_more, drop_all, at_drop_all}
 use Rattle.std.proofs.lemmas.Bool.{cond-true, cond-false, eq-eqb, ne_eqb, cases_lt}
 use Rattle.std.proofs.lemmas.Option.{unwrap_or-slice_get, slice_get-get_or, slice_get_past}
-use Rattle.text.specs.Parts.{Reading, and_then, this_in, this_at, field_from, field_at, alike, begins, picked, reach, picked_or, picked_or_reach, picked_at, word_at, comma_at, digit, goes_on, opened, pushed, digits_from, number_from, number_at, opened_by, pushed_by, digits_up, decimal_from, decimal_at}
+use Rattle.text.specs.Parts.{Reading, and_then, this_in, this_at, field_from, field_at, alike, begins, picked, reach, picked_or, picked_or_reach, picked_at, word_at, comma_at, digit, goes_on, digits_from, number_from, number_at, opened_by, pushed_by, digits_up, decimal_from, decimal_at}
 
 -- alike
 

@@ -1,7 +1,5 @@
 -- How a cursor reads one part after the other.
-use Rattle.std.proofs.Common.{◌≡◌, ℕ, ◌+◌, List, Ok, Err, Result, refl, sym, ap, ◌∙◌, subst}
-use Rattle.std.specs.Result.{IsErrAnd}
-use Rattle.std.proofs.lemmas.Result.{err_from_is_err_and}
+use Rattle.std.proofs.Common.{◌≡◌, ℕ, List, Ok, Err, Result, refl, ◌∙◌, subst}
 use Rattle.text.specs.Parts.{Reading, and_then}
 use Rattle.text.specs.Cursors.{Gives}
 use Rattle.text.specs.declared.fault.Illegal.{Illegal}

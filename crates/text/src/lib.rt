@@ -3,10 +3,8 @@
 
 mod cursor;
 mod fault;
-
-mod word;
+mod table;
 
 pub use cursor::Cursor;
 pub use fault::{Illegal, TextFault};
-
-pub use word::Word;
+pub use table::Table;

@@ -23,9 +23,7 @@ fn pushed(value: u64, byte: u8, limit: u64) -> Option<u64>
     if !byte.is_ascii_digit() || value == 0 {
         return None;
     }
-    let more = value
-        .checked_mul(10)?
-        .checked_add(u64::from(byte - b'0'))?;
+    let more = value.checked_mul(10)?.checked_add(u64::from(byte - b'0'))?;
     if more > limit { None } else { Some(more) }
 }
 

@@ -6,7 +6,7 @@ ghost use Rattle.text.specs.Parts.{picked_or_reach, word_at, field_at};
 
 use super::Cursor;
 use crate::fault::Illegal;
-use crate::word::Word;
+use crate::table::Table;
 
 /// How many bytes two texts begin with alike.
 fn alike(text: &[u8], word: &[u8]) -> usize
@@ -16,13 +16,13 @@ fn alike(text: &[u8], word: &[u8]) -> usize
 }
 
 /// The first of these values whose word the text begins with, or how many bytes it begins with alike with one of their words at most.
-fn pick<W: Word>(text: &[u8], values: &[W]) -> Result<W, usize>
-    ensures value { result ≡ picked_or_reach W.Word.word values.now text.now }
-    ensures within { MatchResult result (λ a. length (W.Word.word a) ≤ length text.now) (λ far. far ≤ length text.now) }
+fn pick<T: Table>(values: &[T::Value], text: &[u8]) -> Result<T::Value, usize>
+    ensures value { result ≡ picked_or_reach T.word values.now text.now }
+    ensures within { MatchResult result (λ a. length (T.word a) ≤ length text.now) (λ far. far ≤ length text.now) }
 {
     let mut far = 0;
     for value in values {
-        let word = value.text();
+        let word = T::text(*value);
         let count = alike(text, word);
         if count == word.len() {
             return Ok(*value);
@@ -35,13 +35,13 @@ fn pick<W: Word>(text: &[u8], values: &[W]) -> Result<W, usize>
 }
 
 impl Cursor<'_> {
-    /// One word of these values.
-    pub fn word_of<W: Word>(&mut self, values: &[W]) -> Result<W, Illegal>
-        ensures { Reads (word_at W.Word.word values.now) self.old self.new result }
+    /// One word of a table.
+    pub fn word<T: Table>(&mut self) -> Result<T::Value, Illegal>
+        ensures { Reads (word_at T.word T.values) self.old self.new result }
     {
-        match pick(&self.line[self.place..], values) {
+        match pick::<T>(T::all(), &self.line[self.place..]) {
             Ok(value) => {
-                self.place += value.text().len();
+                self.place += T::text(value).len();
                 Ok(value)
             }
             Err(far) => Err(Illegal {
@@ -50,25 +50,11 @@ impl Cursor<'_> {
         }
     }
 
-    /// One word of the table.
-    pub fn word<W: Word>(&mut self) -> Result<W, Illegal>
-        ensures { Reads (word_at W.Word.word W.Word.table) self.old self.new result }
-    {
-        self.word_of(W::all())
-    }
-
-    /// A comma and one word of these values.
-    pub fn field_of<W: Word>(&mut self, values: &[W]) -> Result<W, Illegal>
-        ensures { Reads (field_at W.Word.word values.now) self.old self.new result }
+    /// A comma and one word of a table.
+    pub fn field<T: Table>(&mut self) -> Result<T::Value, Illegal>
+        ensures { Reads (field_at T.word T.values) self.old self.new result }
     {
         self.expect(b',')?;
-        self.word_of(values)
-    }
-
-    /// A comma and one word of the table.
-    pub fn field<W: Word>(&mut self) -> Result<W, Illegal>
-        ensures { Reads (field_at W.Word.word W.Word.table) self.old self.new result }
-    {
-        self.field_of(W::all())
+        self.word::<T>()
     }
 }

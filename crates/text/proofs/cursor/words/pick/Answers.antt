@@ -6,12 +6,12 @@ use Rattle.text.proofs.cursor.words.pick.Goals as goal
 use Rattle.text.proofs.cursor.words.pick.Goals.{then-count-far, else-count-far}
 
 pub loop-value-init : goal.loop-value-init
-loop-value-init g c = (chooses_all g.W.Word.word c.args.values.now c.args.text.now, omega arith)
+loop-value-init g c = (chooses_all g.T.Table.word c.args.values.now c.args.text.now, omega arith)
 
 pub returns-then-count-word : goal.returns-then-count-word
 returns-then-count-word g c =
     let a = c.value-item.result in
-    let word = g.W.Word.word in
+    let word = g.T.Table.word in
     let count : c.alike-count.result ≡ alike c.args.text.now (word a) = count_is c.args.text.now c.alike-count.ensures c.text-word.ensures in
     let whole : c.alike-count.result ≡ length (word a) = size_is c.if-count-word.true c.text-word.ensures in
     record {
@@ -22,7 +22,7 @@ returns-then-count-word g c =
 pub loop-value-preserved : goal.loop-value-preserved
 loop-value-preserved g c =
     let a = c.value-item.result in
-    let word = g.W.Word.word in
+    let word = g.T.Table.word in
     let count : c.alike-count.result ≡ alike c.args.text.now (word a) = count_is c.args.text.now c.alike-count.ensures c.text-word.ensures in
     let most : c.if-count-far.far ≡ max c.loop-value.far (alike c.args.text.now (word a)) = elim c.if-count-far.branch [ then-count-far w ↦ omega (arith, w.far-is, w.if-count-far.true, count) | else-count-far w ↦ omega (arith, w.far-is, w.if-count-far.false, count) ] in
     let later = chooses_later word c.loop-value.far c.args.values.now c.args.text.now c.loop-value.value-index a c.loop-value-test.true (sym c.value-item.is) (λ e. c.if-count-word.false (size_is (count ∙ e) (sym c.text-word.ensures))) in (
@@ -32,6 +32,6 @@ loop-value-preserved g c =
 
 pub returns : goal.returns
 returns g c = record {
-  value = sym (chooses_none g.W.Word.word c.loop-value.far c.args.values.now c.args.text.now c.loop-value.value-index c.loop-value-test.false) ∙ c.loop-value.invariant.0;
+  value = sym (chooses_none g.T.Table.word c.loop-value.far c.args.values.now c.args.text.now c.loop-value.value-index c.loop-value-test.false) ∙ c.loop-value.invariant.0;
   within = c.loop-value.invariant.1;
 }

@@ -1,4 +1,5 @@
 pub mod Cursors
 pub mod Faults
+pub mod Hexes
 pub mod Legal
 pub mod Parts

@@ -3,8 +3,10 @@
 
 mod cursor;
 mod fault;
+mod hex;
 mod table;
 
 pub use cursor::Cursor;
 pub use fault::{Illegal, TextFault};
+pub use hex::Hex;
 pub use table::Table;

@@ -1,17 +1,17 @@
 -- What follows of bits and fields.
-use Rattle.std.proofs.Common.{◌≡◌, ℕ, zero, suc, ◌+◌, ◌-◌, ◌*◌, ◌/◌, ◌%◌, ◌^◌, ◌<◌, ◌≤◌, List, length, get_or, drop, refl, add-one, arith, pow_mono}
+use Rattle.std.proofs.Common.{◌≡◌, ℕ, zero, suc, ◌+◌, ◌-◌, ◌*◌, ◌/◌, ◌%◌, ◌^◌, ◌<◌, List, get_or, refl, add-one, arith, pow_mono}
 use native.Mathlib.Nat.{pow-succ'}
 use Rattle.std.proofs.lemmas.Nat.{mod_below}
-use Rattle.std.proofs.lemmas.List.{get_or-drop, get_or_past}
 use Rattle.telegram.specs.Bits.{bit, number, field}
 
 -- a bit is 0 or 1
 pub bit_below : (bytes : List ℕ) (i : ℕ) → bit bytes i < 2
 bit_below bytes i = mod_below (get_or bytes (i / 8) 0 / 2 ^ (7 - i % 8)) 2 (omega arith)
 
--- behind the last byte there are zeros
-pub bit_past : (bytes : List ℕ) (i : ℕ) → length bytes ≤ i / 8 → 0 ≡ bit bytes i
-bit_past bytes i h = let e = get_or_past bytes (i / 8) 0 h in let z : 0 / 2 ^ (7 - i % 8) ≡ 0 = native.Mathlib.Nat.zero-div (2 ^ (7 - i % 8)) in simp (e, z)
+-- no bits make 0
+pub field_none : (bytes : List ℕ) (at : ℕ) → field bytes at 0 ≡ 0
+unfolding field
+field_none bytes at = refl
 
 -- one bit more
 pub field_more : (bytes : List ℕ) (at w : ℕ) → field bytes at (w + 1) ≡ field bytes at w * 2 + bit bytes (at + w)
@@ -31,20 +31,5 @@ field_below bytes at w = number_below (bit bytes) (bit_below bytes) at w
 pub field_room : (bytes : List ℕ) (at w : ℕ) → w < 16 → field bytes at w < 32768
 field_room bytes at w h = omega (arith, field_below bytes at w, pow_mono {i = w} {j = 15} (omega arith))
 
--- a bit of what is left after k bytes is one of the whole
-bit_drop : (bytes : List ℕ) (k i : ℕ) → bit (drop k bytes) i ≡ bit bytes (8 * k + i)
-bit_drop bytes k i =
-    let d : (8 * k + i) / 8 ≡ k + i / 8 = omega arith in
-    let m : (8 * k + i) % 8 ≡ i % 8 = omega arith in
-    simp (d, m, get_or-drop)
-
-number_drop : (bytes : List ℕ) (k o w : ℕ) → number (bit (drop k bytes)) o w ≡ number (bit bytes) (8 * k + o) w
-number_drop bytes k o zero = refl
-number_drop bytes k o (suc w) =
-    let i : 8 * k + (o + w) ≡ 8 * k + o + w = omega arith in
-    simp (number_drop bytes k o w, bit_drop, i)
-
--- a field of the part from byte k on is the field of the whole, 8 * k bits further
-pub field_drop : (bytes : List ℕ) (k o w : ℕ) → field (drop k bytes) o w ≡ field bytes (8 * k + o) w
-unfolding field
-field_drop bytes k o w = number_drop bytes k o w
+-- what the reading of a field needs, bit by bit
+pub ruleset field_steps = (field_none, field_more, field_room, bit_below)

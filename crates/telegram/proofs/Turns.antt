@@ -13,7 +13,8 @@ use Rattle.telegram.specs.Packets.{Lasts, Within, code_packet, directed_packet_i
 use Rattle.telegram.specs.Telegrams.{telegram_bits, EveryPacketRead}
 use Rattle.telegram.specs.declared.packet.Found.{Found}
 use Rattle.telegram.specs.declared.packet.Found.TheVariants.{End, Other, Tbl1}
-use Rattle.telegram.proofs.Packets.{within_by_length}
+use Rattle.telegram.proofs.Forms.{form_bits, form_short}
+use Rattle.telegram.proofs.Packets.{behind_none, packets_over, packets_stop, within_by_length}
 
 code_lasts : (d : Direction) (f s : Option Digit) (at l : ℕ) → l ≡ 48 → Lasts (code_packet d f s at) l
 code_lasts d (Some f) (Some s) at l e = sym e
@@ -71,3 +72,6 @@ telegram_short n = cond_both (eqb n 27) 210 _ (λ (b : ℕ). b ≤ 830) (λ _. o
 
 pub every_packet_read : (bytes : List ℕ) → EveryPacketRead bytes
 every_packet_read bytes more = turns_enough 34 more bytes 50 (telegram_bits (length bytes)) (omega (arith, telegram_short (length bytes)))
+
+-- what the reading of the packets needs, turn by turn
+pub ruleset turn_steps = (form_bits, form_short, behind_none, packets_stop, packets_over, every_packet_read)

@@ -1,4 +1,5 @@
 pub mod Bits
+pub mod Forms
 pub mod Headers
 pub mod Lists
 pub mod Packets

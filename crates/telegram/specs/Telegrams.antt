@@ -10,11 +10,11 @@ use Rattle.balise.specs.declared.faults.HeaderFault.{HeaderFault}
 use Rattle.balise.specs.declared.faults.HeaderFault.TheVariants.{Packet as packet_fault}
 use Rattle.balise.specs.declared.faults.PacketFault.{PacketFault}
 use Rattle.balise.specs.declared.header.Header.{Header}
-use Rattle.telegram.specs.declared.list.PacketList.{PacketList}
 use Rattle.balise.specs.declared.packet.Tbl1Packet.{Tbl1Packet}
+use Rattle.few.specs.declared.Few.{Few}
 use Rattle.telegram.specs.declared.frame.Accepted.{Accepted}
 use Rattle.telegram.specs.declared.frame.Frame.{Frame}
-use Rattle.telegram.specs.declared.frame.Telegram.{Telegram}
+use Rattle.telegram.specs.declared.reading.Telegram.{Telegram}
 
 -- how many bits of a telegram of so many bytes are not closing bits; a telegram has 27 or 104 bytes
 abbrev pub telegram_bits : ℕ → ℕ
@@ -51,7 +51,7 @@ abbrev pub accepted_of : List ℕ → ℕ → Result Opened HeaderFault
 accepted_of bytes plug = opened bytes (header_asked plug (header_in bytes))
 
 abbrev pub accepted : Result Accepted HeaderFault → Result Opened HeaderFault
-accepted (Ok a) = Ok (record { bytes = a.bytes.now; header = a.header })
+accepted (Ok a) = Ok (record { bytes = a.frame.bytes.now; header = a.header })
 accepted (Err e) = Err e
 
 -- the TBL1+ packets of a telegram, from bit 50 on. Each packet has 23 bits at least, so there are fewer than 34
@@ -63,7 +63,7 @@ abbrev pub EveryPacketRead : List ℕ → Type 0
 EveryPacketRead bytes = (more : ℕ) → packets_from (34 + more) bytes 50 (telegram_bits (length bytes)) ≡ packets_in bytes
 
 -- a list of packets as the packets that it holds
-abbrev pub listed : Result PacketList PacketFault → Result (List Tbl1Packet) PacketFault
+abbrev pub listed : Result (Few Tbl1Packet 16) PacketFault → Result (List Tbl1Packet) PacketFault
 listed (Ok l) = Ok (packets_of l)
 listed (Err e) = Err e
 
@@ -96,10 +96,6 @@ abbrev pub reading_of : List ℕ → Bool → ℕ → Result Reading FrameFault
 reading_of bytes crc plug = frame_read (frame_of bytes crc) plug
 
 -- a telegram as what it reads as
-abbrev pub told_in_header : Result Telegram HeaderFault → Result Reading HeaderFault
-told_in_header (Ok t) = Ok (record { header = t.header; packets = packets_of t.packets })
-told_in_header (Err e) = Err e
-
-abbrev pub told : Result Telegram FrameFault → Result Reading FrameFault
+abbrev pub told : {E : Type 0} → Result Telegram E → Result Reading E
 told (Ok t) = Ok (record { header = t.header; packets = packets_of t.packets })
 told (Err e) = Err e

@@ -13,11 +13,9 @@ pub struct BitReader<'a> {
 fn bit(bytes: &[u8], place: usize) -> u8
     ensures { result ≡ bit bytes.now place }
 {
-    if place / 8 < bytes.len() {
-        bytes[place / 8] >> (7 - place % 8) & 1
-    } else {
-        0
-    }
+    bytes
+        .get(place / 8)
+        .map_or(0, |byte| byte >> (7 - place % 8) & 1)
 }
 
 impl<'a> BitReader<'a> {
@@ -29,12 +27,14 @@ impl<'a> BitReader<'a> {
     }
 
     /// The next field of `width` bits, the first bit the highest.
+    #[tactic(auto, using(crate::proofs::Fields::field_steps))]
     pub fn take(&mut self, width: usize) -> u16
         requires { (width ≤ 16) × (self.old.place ≤ 8192) }
         ensures bytes { self.new.bytes.now ≡ self.old.bytes.now }
         ensures place { self.new.place ≡ self.old.place + width }
         ensures value { result ≡ field self.old.bytes.now self.old.place width }
     {
+        // no fold: it would ask that `value * 2` fits whatever it is called with, not only for the bits that came
         let mut value = 0u16;
         for k in 0..width {
             value = value * 2 + u16::from(bit(self.bytes, self.place + k));

@@ -2,10 +2,13 @@
 #![tactic(auto)]
 
 mod bits;
+mod form;
 mod frame;
 mod header;
 mod list;
 mod packet;
+mod reading;
 
-pub use frame::{Accepted, Frame, Telegram, read};
+pub use frame::{Accepted, Frame};
 pub use list::PacketList;
+pub use reading::{Telegram, read};

@@ -6,7 +6,7 @@ use crate::bits::BitReader;
 use balise::{Code, Digit, Direction, PacketFault, Tbl1Packet};
 
 /// What stands at a place where a packet begins.
-#[derive(Clone, Copy)]
+#[derive(Clone, Copy, PartialEq, Eq, Debug)]
 pub enum Found {
     /// The packet 255 that ends the telegram.
     End,
@@ -28,13 +28,13 @@ const USER_BITS: usize = 32;
 /// A TBL1+ packet: the fixed part, NID_XUSER and two digits.
 pub const TBL1_BITS: usize = 48;
 
-/// The packet that begins `offset` bits into `part`, which is the telegram from the packet's first byte on. In the telegram the packet begins at the bit `at`, and the telegram has `end` bits.
-pub fn read_packet(part: &[u8], offset: usize, at: usize, end: usize) -> Result<Found, PacketFault>
-    requires { (offset < 8) × (at ≤ 830) }
-    ensures value { result ≡ packet_in part.now offset at end }
+/// The packet that begins at the bit `at` of a telegram whose bits end at `end`.
+pub fn read_packet(telegram: &[u8], at: usize, end: usize) -> Result<Found, PacketFault>
+    requires { at ≤ 830 }
+    ensures value { result ≡ packet_in telegram.now at at end }
     ensures within { Within result at end }
 {
-    let mut reader = BitReader::new(part, offset);
+    let mut reader = BitReader::new(telegram, at);
     let id = reader.take(8);
     if id == END {
         return Ok(Found::End);
@@ -63,28 +63,22 @@ fn read_user_packet(
     length: usize,
     at: usize,
 ) -> Result<Found, PacketFault>
-    requires { reader.place ≤ 100 }
+    requires { reader.place ≤ 1000 }
     ensures value { result ≡ user_packet_in reader.entry.bytes.now reader.entry.place direction length at }
     ensures length { Lasts result length }
 {
     if length < USER_BITS {
         return Err(PacketFault::NoUser { at });
     }
-    let Some(direction) = Direction::new(direction) else {
-        return Err(PacketFault::Direction { at });
-    };
+    let direction = Direction::try_from(direction).map_err(|_| PacketFault::Direction { at })?;
     if reader.take(9) != TBL1 {
         return Ok(Found::Other { length });
     }
     if length != TBL1_BITS {
         return Err(PacketFault::CodeLength { at });
     }
-    let Some(first) = Digit::new(reader.take(8)) else {
-        return Err(PacketFault::Digit { at });
-    };
-    let Some(second) = Digit::new(reader.take(8)) else {
-        return Err(PacketFault::Digit { at });
-    };
+    let first = Digit::try_from(reader.take(8)).map_err(|_| PacketFault::Digit { at })?;
+    let second = Digit::try_from(reader.take(8)).map_err(|_| PacketFault::Digit { at })?;
     let code = Code { first, second };
     Ok(Found::Tbl1 {
         packet: Tbl1Packet { direction, code },

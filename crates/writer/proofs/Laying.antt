@@ -1,13 +1,11 @@
 -- What follows of fields that lie end to end.
-use Rattle.std.proofs.Common.{◌≡◌, ℕ, ◌+◌, ◌-◌, ◌/◌, ◌%◌, ◌^◌, ◌<◌, ◌≤◌, Bool, true, cond, ◌&&◌, eqb, ltb, leb, List, [], ◌∷◌, ◌++◌, map, length, get_or, drop, set, sym, ap, ◌∙◌, ⊎_elim, append_assoc, arith, pow_mono}
+use Rattle.std.proofs.Common.{◌≡◌, ℕ, ◌+◌, ◌-◌, ◌/◌, ◌%◌, ◌^◌, ◌<◌, ◌≤◌, cond, eqb, ltb, leb, List, [], ◌∷◌, length, get_or, drop, sym, ◌∙◌, ⊎_elim, arith, pow_mono}
 use Rattle.std.proofs.lemmas.Nat.{mod_below, div_below, le-div, pow_pos}
-use Rattle.std.proofs.lemmas.List.FromFn.{length-map-range_with_len, map-range_with_len_more}
-use Rattle.std.proofs.lemmas.List.{at_drop_more, at_drop_all, drop_more, set_at}
-use Rattle.std.specs.List.{range_with_len}
+use Rattle.std.proofs.lemmas.List.{at_drop_more, at_drop_all}
 use Rattle.std.proofs.lemmas.Bool.{cases_lt, cond_both, cond-true, cond-false, eq-eqb, ne_eqb, le-leb, lt-ltb, le-ltb}
 use Rattle.telegram.proofs.Fields.{number_below}
 use Rattle.telegram.specs.Bits.{number}
-use Rattle.writer.specs.Layouts.{fits, all_fit, laid_bit}
+use Rattle.writer.specs.Layouts.{laid_bit}
 use Rattle.writer.specs.declared.layout.Field.{Field}
 
 -- a value of 16 bits has no bit with 16 or more below it
@@ -45,14 +43,6 @@ laid_later fs k i h l = at_drop_more (λ gs. laid_bit gs i) fs k none h ∙ cond
 pub laid_behind : (fs : List Field) (k i : ℕ) → length fs ≤ k → laid_bit (drop k fs) i ≡ cond (ltb i 104) 1 0
 laid_behind fs k i h = at_drop_all (λ gs. laid_bit gs i) fs k h
 
--- one byte more is written, and the others are as they were
-pub filled_more : (f : ℕ → ℕ) (old : List ℕ) (k : ℕ) → k < length old → set (map f (range_with_len 0 k) ++ drop k old) k (f k) ≡ map f (range_with_len 0 (k + 1)) ++ drop (k + 1) old
-filled_more f old k h =
-    ap (λ (xs : List ℕ). set (map f (range_with_len 0 k) ++ xs) k (f k)) (drop_more old k 0 h)
-    ∙ set_at (map f (range_with_len 0 k)) (get_or old k 0) (drop (k + 1) old) (f k) k (length-map-range_with_len f 0 k)
-    ∙ sym (append_assoc (map f (range_with_len 0 k)) (f k ∷ []) (drop (k + 1) old))
-    ∙ ap (λ (xs : List ℕ). xs ++ drop (k + 1) old) (sym (map-range_with_len_more f 0 k k (omega arith)))
-
 -- a value of 16 bits fits 16 bits and more
 pub wide_enough : (value width : ℕ) → value < 65536 → 16 ≤ width → leb 16 width ≡ ltb value (2 ^ width)
 wide_enough value width h l = le-leb 16 width l ∙ sym (lt-ltb value (2 ^ width) (omega (arith, pow_mono {i = 16} {j = width} l)))
@@ -64,10 +54,3 @@ nothing_above value width =
     (λ less. let q = div_below value (2 ^ width) 1 (pow_pos width) (omega arith) in eq-eqb (value / 2 ^ width) 0 (omega arith) ∙ sym (lt-ltb value (2 ^ width) less))
     (λ more. let q = le-div 1 value (2 ^ width) (pow_pos width) (omega arith) in ne_eqb (value / 2 ^ width) 0 (λ e. omega arith) ∙ sym (le-ltb value (2 ^ width) more))
     (cases_lt value (2 ^ width))
-
--- the fit of fields from a place of the list on, by that of the next, and at the end
-pub fit_by : (fs : List Field) (k : ℕ) (b : Bool) → k < length fs → b ≡ fits (get_or fs k none) → b && all_fit (drop (k + 1) fs) ≡ all_fit (drop k fs)
-fit_by fs k b h e = ap (λ (x : Bool). x && all_fit (drop (k + 1) fs)) e ∙ sym (at_drop_more all_fit fs k none h)
-
-pub fit_all : (fs : List Field) (k : ℕ) → length fs ≤ k → all_fit (drop k fs) ≡ true
-fit_all fs k h = at_drop_all all_fit fs k h

@@ -1,5 +1,5 @@
 -- The telegram of a draft is accepted and reads as the draft.
-use Rattle.std.proofs.Common.{◌≡◌, ℕ, ◌^◌, ◌<◌, ◌≤◌, true, ltb, List, [], ◌∷◌, length, take, drop, Some, Ok, Err, Option, Result, sym, refl, ap, ◌∙◌, ap₂, arith}
+use Rattle.std.proofs.Common.{◌≡◌, ℕ, ◌^◌, ◌<◌, ◌≤◌, true, List, [], ◌∷◌, ◌++◌, length, Some, Ok, Option, Result, sym, refl, ap, ◌∙◌, ap₂, arith}
 use Rattle.std.proofs.lemmas.List.{take_at}
 use Rattle.std.proofs.lemmas.Option.{slice_get-get_or}
 use Rattle.std.proofs.lemmas.Bool.{cond-true, cond-false, eq-eqb, ne_eqb, le-ltb}
@@ -24,11 +24,9 @@ use Rattle.telegram.proofs.Packets.{packet_44, packets_found}
 use Rattle.writer.specs.Drafts.{asked}
 use Rattle.writer.specs.Layouts.{layout}
 use Rattle.writer.specs.RoundTrip.{draft_header, draft_packet, draft_reading, ReadsBack}
-use Rattle.writer.specs.Writing.{written, write_answer, buffer_after}
+use Rattle.writer.specs.Writing.{written}
 use Rattle.writer.specs.declared.draft.Draft.{Draft}
-use Rattle.writer.specs.declared.faults.WriteFault.{WriteFault}
 use Rattle.writer.proofs.Cuts.{length_laid}
-use Rattle.writer.proofs.Inverse.{err_ok, went_else}
 use Rattle.writer.proofs.ReadingBack.{Askable, askable, Fields, written_fields, written_closing}
 
 header_same : (bytes : List ℕ) (d : Draft) → Fields bytes d → header_in bytes ≡ draft_header d
@@ -101,11 +99,7 @@ written_reads d e plug h =
     let size = length_laid (layout d) in
     reading_by bytes plug (draft_header d) (draft_packet d ∷ []) (frame_same bytes size (written_closing d)) (ap (header_asked plug) (header_same bytes d f) ∙ header_accepted d plug a h) (packets_same bytes (draft_packet d) size (packet_same bytes d a f) f.end)
 
--- what the writer accepted is in the buffer; of what it refused nothing is said
-pub reads_back : (r : Result (Unit {0}) WriteFault) (d : Draft) (room : ℕ) (out buffer : List ℕ) → r ≡ write_answer d room → buffer ≡ buffer_after r d out → ReadsBack r d buffer
-reads_back (Err f) d room out buffer answer same e plug h = absurd (err_ok e)
-reads_back (Ok u) d room out buffer answer same e plug h =
-    let asks = went_else (ltb room 27) _ _ (Ok tt) (sym answer) err_ok in
-    ap (λ (b : List ℕ). reading_of (take 27 b) true plug) same
-    ∙ ap (λ (b : List ℕ). reading_of b true plug) (take_at (written d) (drop 27 out) 27 (length_laid (layout d)))
-    ∙ written_reads d asks.1 plug h
+-- what the writer accepted reads back from a buffer that begins with it
+pub reads_back : (d : Draft) (rest : List ℕ) → asked d ≡ Ok tt → ReadsBack (Ok tt) d (written d ++ rest)
+reads_back d rest asks e plug h =
+    ap (λ (b : List ℕ). reading_of b true plug) (take_at (written d) rest 27 (length_laid (layout d))) ∙ written_reads d asks plug h

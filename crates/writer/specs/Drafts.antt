@@ -1,6 +1,7 @@
 -- What the writer is given, and the questions asked of it.
 use Rattle.std.specs.Prelude.{cond, ◌||◌, Ok, Err, Result, ◌==◌, nat_lt}
-use Rattle.refusal.specs.declared.Layer.TheVariants.{Header as in_header, Text as in_text}
+use Rattle.refusal.specs.declared.layer.Layer.TheVariants.{Header as in_header, Text as in_text}
+use Rattle.refusal.specs.declared.reason.Reason.TheVariants as reason
 use Rattle.refusal.specs.declared.Refusal.{Refusal}
 use Rattle.refusal.specs.Refusals.{refused}
 use Rattle.writer.specs.Layouts.{layout, all_fit}
@@ -8,14 +9,14 @@ use Rattle.writer.specs.declared.draft.Draft.{Draft}
 use Rattle.writer.specs.declared.faults.WriteFault.{WriteFault}
 use Rattle.writer.specs.declared.faults.WriteFault.TheVariants.{Short, TooWide, NoTotal, Position, Direction, Digit}
 
--- number, place and layer of each fault of the writer
+-- reason, place and layer of each fault of the writer
 abbrev pub write_refusal : WriteFault → Refusal
-write_refusal Short = refused 15 0 in_text
-write_refusal TooWide = refused 16 0 in_header
-write_refusal NoTotal = refused 16 0 in_header
-write_refusal Position = refused 16 0 in_header
-write_refusal Direction = refused 16 0 in_header
-write_refusal Digit = refused 16 0 in_header
+write_refusal Short = refused reason.Short 0 in_text
+write_refusal TooWide = refused reason.Value 0 in_header
+write_refusal NoTotal = refused reason.Value 0 in_header
+write_refusal Position = refused reason.Value 0 in_header
+write_refusal Direction = refused reason.Value 0 in_header
+write_refusal Digit = refused reason.Value 0 in_header
 
 -- no value is too wide, or one with which no telegram is accepted
 unfoldable pub asked : Draft → Result (Unit {0}) WriteFault

@@ -1,6 +1,6 @@
 -- How the values of a telegram lie in its bits.
-use Rattle.std.specs.Prelude.{ℕ, ◌-◌, ◌*◌, ◌/◌, ◌%◌, ◌^◌, Bool, true, cond, ◌&&◌, List, [], ◌∷◌, map, nat_lt}
-use Rattle.std.specs.List.{range_with_len}
+use Rattle.std.specs.Prelude.{ℕ, ◌-◌, ◌*◌, ◌/◌, ◌%◌, ◌^◌, Bool, cond, List, [], ◌∷◌, map, nat_lt}
+use Rattle.std.specs.List.{list_all, range_with_len}
 use Rattle.telegram.specs.Bits.{number}
 use Rattle.writer.specs.declared.draft.Draft.{Draft}
 use Rattle.writer.specs.declared.layout.Field.{Field}
@@ -37,8 +37,7 @@ fits f = nat_lt f.value (2 ^ f.width)
 
 -- each value fits its field
 abbrev pub all_fit : List Field → Bool
-all_fit [] = true
-all_fit (f ∷ fs) = fits f && all_fit fs
+all_fit fs = list_all fits fs
 
 -- the bit at a place of fields that lie end to end, each with its highest bit first; behind them 104 ones, and then zeros
 abbrev pub laid_bit : List Field → ℕ → ℕ

@@ -6,7 +6,7 @@ use crate::faults::WriteFault;
 use crate::layout::all_fit;
 
 /// The values of a telegram to be written.
-#[derive(Clone, Copy)]
+#[derive(Clone, Copy, PartialEq, Eq, Debug)]
 pub struct Draft {
     /// M_VERSION
     pub version: u16,

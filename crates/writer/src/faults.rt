@@ -2,9 +2,9 @@
 ghost use Rattle.std.specs.Prelude.{◌≡◌};
 ghost use Rattle.writer.specs.Drafts.{write_refusal};
 
-use refusal::{Layer, Refusal};
+use refusal::{Layer, Reason, Refusal};
 
-#[derive(Clone, Copy)]
+#[derive(Clone, Copy, PartialEq, Eq, Debug)]
 pub enum WriteFault {
     /// The buffer has fewer than 27 bytes.
     Short,
@@ -20,22 +20,19 @@ pub enum WriteFault {
     Digit,
 }
 
-impl WriteFault {
-    /// Number, place and layer.
-    pub fn refusal(self) -> Refusal
-        ensures { result ≡ write_refusal self }
-    {
-        match self {
-            WriteFault::Short => Refusal {
-                number: 15,
-                place: 0,
-                layer: Layer::Text,
-            },
-            _ => Refusal {
-                number: 16,
-                place: 0,
-                layer: Layer::Header,
-            },
+/// Reason, place and layer.
+impl From<WriteFault> for Refusal {
+    ghost from_gives = { λ fault r. r ≡ write_refusal fault };
+
+    fn from(fault: WriteFault) -> Refusal {
+        let (reason, layer) = match fault {
+            WriteFault::Short => (Reason::Short, Layer::Text),
+            _ => (Reason::Value, Layer::Header),
+        };
+        Refusal {
+            reason,
+            place: 0,
+            layer,
         }
     }
 }

@@ -6,7 +6,7 @@ ghost use Rattle.writer.specs.Layouts.{in_bits, layout, fits, all_fit, laid_bit}
 use crate::draft::Draft;
 
 /// A value, and the bits that it takes.
-#[derive(Clone, Copy)]
+#[derive(Clone, Copy, PartialEq, Eq, Debug)]
 pub struct Field {
     pub value: u16,
     pub width: usize,
@@ -21,6 +21,7 @@ fn in_bits(value: u16, width: usize) -> Field
 
 impl Draft {
     /// The fields of the telegram in their order, up to the packet 255.
+    #[tactic(auto, unfolding(crate::specs::Layouts::layout))]
     pub(crate) fn layout(self) -> [Field; 17]
         ensures { result ≡ layout self }
     {
@@ -48,6 +49,7 @@ impl Draft {
 
 impl Field {
     /// Whether the value fits the bits that it takes.
+    #[tactic(auto, using(crate::proofs::Laying::wide_enough, crate::proofs::Laying::nothing_above))]
     fn fits(self) -> bool
         ensures { result ≡ fits self }
     {
@@ -59,15 +61,11 @@ impl Field {
 pub(crate) fn all_fit(fields: &[Field]) -> bool
     ensures { result ≡ all_fit fields.now }
 {
-    for field in fields {
-        if !field.fits() {
-            return false;
-        }
-    }
-    true
+    fields.iter().all(|field| field.fits())
 }
 
 /// The bit of `value` that has so many bits below it.
+#[tactic(auto, using(crate::proofs::Laying::none_above))]
 fn bit_above(value: u16, below: usize) -> u8
     ensures { result ≡ value / 2 ^ below % 2 }
 {
@@ -79,6 +77,7 @@ fn bit_above(value: u16, below: usize) -> u8
 }
 
 /// The bit at `place` of fields that lie end to end. Behind them come 104 ones, and then zeros.
+#[tactic(auto, using(crate::proofs::Laying::laid_here, crate::proofs::Laying::laid_later, crate::proofs::Laying::laid_behind))]
 fn laid_bit(fields: &[Field], place: usize) -> u8
     ensures { result ≡ laid_bit fields.now place }
 {
@@ -89,14 +88,16 @@ fn laid_bit(fields: &[Field], place: usize) -> u8
         }
         left -= field.width;
     }
-    if left < 104 { 1 } else { 0 }
+    u8::from(left < 104)
 }
 
 /// The eight bits from `place` on.
+#[tactic(auto, using(crate::proofs::Laying::laid_below, crate::proofs::Laying::laid_room))]
 pub(crate) fn laid_byte(fields: &[Field], place: usize) -> u8
     requires { place ≤ 8192 }
     ensures { result ≡ number (laid_bit fields.now) place 8 }
 {
+    // no fold: it would ask that `byte * 2` fits whatever it is called with, not only for the bits that came
     let mut byte = 0u16;
     for k in 0..8 {
         byte = byte * 2 + u16::from(laid_bit(fields, place + k));

@@ -7,31 +7,16 @@ ghost use Rattle.writer.specs.Writing.{written, write_answer, buffer_after};
 use crate::draft::Draft;
 use crate::faults::WriteFault;
 use crate::layout::{Field, laid_byte};
+use std::array;
 
 /// The bytes of a short telegram.
 const SHORT: usize = 27;
 
-/// Fills the first 27 bytes.
-fn fill(fields: &[Field], out: &mut [u8])
-    requires { 27 ≤ length out.old }
-    ensures { out.new ≡ laid_bytes fields.now ++ drop 27 out.old }
+/// The telegram of these fields.
+fn laid(fields: &[Field]) -> [u8; SHORT]
+    ensures { result ≡ laid_bytes fields.now }
 {
-    for k in 0..SHORT {
-        out[k] = laid_byte(fields, 8 * k);
-    }
-}
-
-/// Fills the buffer, unless it is too short or a question concerns the draft.
-fn fill_asked(draft: Draft, out: &mut [u8]) -> Result<(), WriteFault>
-    ensures value { result ≡ write_answer draft (length out.old) }
-    ensures buffer { out.new ≡ buffer_after result draft out.old }
-{
-    if out.len() < SHORT {
-        return Err(WriteFault::Short);
-    }
-    draft.asked()?;
-    fill(&draft.layout(), out);
-    Ok(())
+    array::from_fn(|k| laid_byte(fields, 8 * k))
 }
 
 /// Writes the telegram of these values into the first 27 bytes of `out` and leaves the others; where it refuses, it leaves all.
@@ -41,10 +26,16 @@ pub fn write(draft: Draft, out: &mut [u8]) -> Result<(), WriteFault>
     ensures reads_back { ReadsBack result draft out.new }
     ensures writes_back { WritesBack }
 {
-    fill_asked(draft, out)
+    if out.len() < SHORT {
+        return Err(WriteFault::Short);
+    }
+    draft.asked()?;
+    out[..SHORT].copy_from_slice(&laid(&draft.layout()));
+    Ok(())
 }
 
 /// The draft of the telegram that docs/TELEGRAMS.md works out by hand.
+#[tactic(auto, unfolding(crate::specs::Layouts::layout, crate::specs::Layouts::laid_bytes))]
 pub fn worked_example() -> Draft
     ensures { written result ≡ worked_bytes }
 {

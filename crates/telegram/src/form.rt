@@ -1,0 +1,29 @@
+// The two lengths that a telegram can have.
+ghost use Rattle.std.specs.Prelude.{◌≡◌};
+ghost use Rattle.telegram.specs.Forms.{form_of};
+
+/// How many bits of a telegram carry what it says, and how many close its last byte.
+#[derive(Clone, Copy, PartialEq, Eq, Debug)]
+pub struct Form {
+    pub bits: usize,
+    pub closing: usize,
+}
+
+impl Form {
+    /// The form of a telegram of so many bytes.
+    pub fn of(bytes: usize) -> Option<Form>
+        ensures { result ≡ form_of bytes }
+    {
+        match bytes {
+            27 => Some(Form {
+                bits: 210,
+                closing: 6,
+            }),
+            104 => Some(Form {
+                bits: 830,
+                closing: 2,
+            }),
+            _ => None,
+        }
+    }
+}

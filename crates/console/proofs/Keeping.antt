@@ -1,17 +1,13 @@
 -- The first bytes of a line are kept.
-use Rattle.std.proofs.Common.{◌≡◌, ℕ, ◌+◌, ◌<◌, ◌≤◌, List, [], ◌∷◌, ◌++◌, length, take, set, sym, ◌∙◌, arith, length-append, length-take-le, take_all}
+use Rattle.std.proofs.Common.{◌≡◌, ℕ, ◌<◌, ◌≤◌, List, [], ◌∷◌, ◌++◌, length, take, sym, ◌∙◌, arith, ⊎_elim, length-append}
 use lib.Seq.{take-append-le}
-use Rattle.std.proofs.lemmas.List.{take_more_set}
+use Rattle.std.proofs.lemmas.List.{take_all}
+use Rattle.std.proofs.lemmas.Bool.{cases_lt}
 
--- a byte that is kept
-pub keeps : (xs : List ℕ) (n b : ℕ) → length xs ≡ 256 → n < 256 → take (n + 1) (set xs n b) ≡ take 256 (take n xs ++ b ∷ [])
-keeps xs n b full room =
-    let front : length (take n xs) ≡ n = length-take-le n xs (omega arith) in
-    let all : length (take n xs ++ b ∷ []) ≤ 256 = simp length-append (omega arith) in
-    take_more_set xs n b (omega arith) ∙ sym (take_all 256 (take n xs ++ b ∷ []) all)
-
--- a byte that is thrown away
-pub throws : (xs : List ℕ) (n b : ℕ) → length xs ≡ 256 → n ≤ 256 → 256 ≤ n → take n xs ≡ take 256 (take n xs ++ b ∷ [])
-throws xs n b full within past =
-    let front : length (take n xs) ≡ n = length-take-le n xs (omega arith) in
-    sym (take-append-le 256 (take n xs) (b ∷ []) (omega arith) ∙ take_all 256 (take n xs) (omega arith))
+-- a byte is kept where there is room for it, and thrown away where there is none
+pub keeps : (xs ys : List ℕ) (n b : ℕ) → length xs ≤ n → (length xs < n → ys ≡ xs ++ b ∷ []) → (n ≤ length xs → ys ≡ xs) → ys ≡ take n (xs ++ b ∷ [])
+keeps xs ys n b within room full =
+    ⊎_elim
+    (λ (l : length xs < n). room l ∙ sym (take_all n (xs ++ b ∷ []) (simp length-append (omega (arith, l)))))
+    (λ (l : n ≤ length xs). full l ∙ sym (take-append-le n xs (b ∷ []) l ∙ take_all n xs within))
+    (cases_lt (length xs) n)

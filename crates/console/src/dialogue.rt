@@ -1,8 +1,8 @@
 // The line that is being read, and who answers it.
 ghost use Rattle.std.specs.Prelude.{◌≡◌, [], ◌∷◌, ◌++◌, take, if◌then◌else◌, nat_eq};
-ghost use Rattle.console.specs.Lines.{kept};
+ghost use Rattle.few.specs.Items.{items};
 
-use crate::line::Line;
+use few::Few;
 use std::fmt;
 use std::fmt::Write;
 
@@ -18,27 +18,29 @@ pub trait Answerer {
 /// A dialogue: the line that has come so far, and who answers it.
 #[derive(Drop)]
 pub struct Dialogue<A: Drop> {
-    line: Line,
+    /// Only the first bytes of a line are kept, so that a line of any length needs no more memory.
+    line: Few<u8, 256>,
     answerer: A,
 }
 
 impl<A: Answerer + Drop> Dialogue<A> {
     /// No byte has come.
     pub fn new(answerer: A) -> Dialogue<A>
-        ensures { (kept result.line ≡ []) × (result.answerer ≡ answerer) }
+        ensures { (items result.line ≡ []) × (result.answerer ≡ answerer) }
     {
         Dialogue {
-            line: Line::new(),
+            line: Few::none(0),
             answerer,
         }
     }
 
     /// Takes a byte of the input; where it ends a line, the answer goes behind the others.
     pub fn take(&mut self, byte: u8, answers: &mut String) -> fmt::Result
-        ensures { kept self.new.line ≡ (if nat_eq byte 10 then [] else take 256 (kept self.old.line ++ byte ∷ [])) }
+        ensures { items self.new.line ≡ (if nat_eq byte 10 then [] else take 256 (items self.old.line ++ byte ∷ [])) }
     {
         if byte != LINE_END {
-            self.line.push(byte);
+            // A byte for which there is no room is thrown away.
+            let _ = self.line.push(byte);
             return Ok(());
         }
         let line = self.line;
@@ -49,7 +51,7 @@ impl<A: Answerer + Drop> Dialogue<A> {
 
     /// The input has ended, perhaps within a line. No line is begun any more.
     pub fn end(&mut self, answers: &mut String) -> fmt::Result
-        ensures { kept self.new.line ≡ [] }
+        ensures { items self.new.line ≡ [] }
     {
         if !self.line.is_empty() {
             self.take(LINE_END, answers)?;

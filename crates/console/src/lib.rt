@@ -2,7 +2,6 @@
 #![tactic(auto)]
 
 mod dialogue;
-mod line;
 mod serving;
 
 pub use dialogue::Answerer;

@@ -1,25 +1,24 @@
 // What a command line asks.
 ghost use Rattle.std.specs.Prelude.{◌≡◌, ◌≤◌, IfOk, slice_index};
 ghost use Rattle.bench.specs.Commands.{letter_of};
-ghost use Rattle.bench.specs.Lines.{InLine};
+ghost use Rattle.bench.specs.Lines.{InLine, Keeps};
 
-use crate::cursor::{Cursor, Illegal};
-use crate::reception::{Reception, TelegramBytes};
+use crate::reception::Handed;
+use few::Few;
+use text::{Cursor, Illegal};
 use writer::Draft;
 
 /// The highest plug value.
 const MOST_PLUG: u16 = 127;
-/// The bytes of a long telegram.
-const LONG: usize = 104;
 
 #[derive(Clone, Copy)]
 pub enum Command {
     /// W: write a telegram.
     Write(Draft),
     /// R: read a telegram.
-    Read(Reception),
+    Read(Handed),
     /// G: hear a telegram for the balise group memory.
-    Hear(Reception),
+    Hear(Handed),
     /// F: forget the balise group.
     Forget,
 }
@@ -33,8 +32,8 @@ impl Command {
         let mut cursor = Cursor::new(line);
         let command = match cursor.byte()? {
             b'W' => Command::Write(draft(&mut cursor)?),
-            b'R' => Command::Read(reception(&mut cursor)?),
-            b'G' => Command::Hear(reception(&mut cursor)?),
+            b'R' => Command::Read(handed(&mut cursor)?),
+            b'G' => Command::Hear(handed(&mut cursor)?),
             b'F' => Command::Forget,
             _ => return Err(Illegal { place: 0 }),
         };
@@ -45,18 +44,17 @@ impl Command {
 
 /// A comma and a number behind it.
 fn field(cursor: &mut Cursor<'_>, limit: u16) -> Result<u16, Illegal>
-    ensures line { cursor.new.line.now ≡ cursor.old.line.now }
-    ensures place { InLine cursor.old.line.now result }
+    ensures keeps { Keeps cursor.old cursor.new result }
     ensures limit { IfOk result (λ n. n ≤ limit) }
 {
     cursor.expect(b',')?;
-    cursor.number(limit)
+    let number = cursor.decimal(u64::from(limit))?;
+    Ok(number as u16)
 }
 
 /// The eleven numbers that stand behind `W`.
 fn numbers(cursor: &mut Cursor<'_>) -> Result<[u16; 11], Illegal>
-    ensures line { cursor.new.line.now ≡ cursor.old.line.now }
-    ensures place { InLine cursor.old.line.now result }
+    ensures { Keeps cursor.old cursor.new result }
 {
     let mut numbers = [0; 11];
     for number in numbers.iter_mut() {
@@ -67,8 +65,7 @@ fn numbers(cursor: &mut Cursor<'_>) -> Result<[u16; 11], Illegal>
 
 /// What stands behind `W`.
 fn draft(cursor: &mut Cursor<'_>) -> Result<Draft, Illegal>
-    ensures line { cursor.new.line.now ≡ cursor.old.line.now }
-    ensures place { InLine cursor.old.line.now result }
+    ensures { Keeps cursor.old cursor.new result }
 {
     let [
         version,
@@ -99,32 +96,30 @@ fn draft(cursor: &mut Cursor<'_>) -> Result<Draft, Illegal>
 }
 
 /// What stands behind `R` and `G`.
-fn reception(cursor: &mut Cursor<'_>) -> Result<Reception, Illegal>
-    ensures line { cursor.new.line.now ≡ cursor.old.line.now }
-    ensures place { InLine cursor.old.line.now result }
+fn handed(cursor: &mut Cursor<'_>) -> Result<Handed, Illegal>
+    ensures { Keeps cursor.old cursor.new result }
 {
     let plug = field(cursor, MOST_PLUG)?;
     let crc = field(cursor, 1)?;
     cursor.expect(b',')?;
-    let telegram = telegram(cursor)?;
-    Ok(Reception {
+    let bytes = telegram(cursor)?;
+    Ok(Handed {
         plug: plug as u8,
         crc_good: crc == 1,
-        telegram,
+        bytes,
     })
 }
 
-/// The telegram that fills the rest of the line.
-fn telegram(cursor: &mut Cursor<'_>) -> Result<TelegramBytes, Illegal>
-    ensures line { cursor.new.line.now ≡ cursor.old.line.now }
-    ensures place { InLine cursor.old.line.now result }
+/// The telegram that fills the rest of the line. More bytes than those of a long telegram are illegal.
+fn telegram(cursor: &mut Cursor<'_>) -> Result<Few<u8, 104>, Illegal>
+    ensures { Keeps cursor.old cursor.new result }
 {
-    let mut telegram = TelegramBytes::new();
-    for count in 0..LONG {
-        if cursor.at_end() {
-            break;
+    let mut bytes = Few::none(0);
+    while !cursor.at_end() {
+        if bytes.is_full() {
+            return Err(cursor.illegal());
         }
-        telegram.push(cursor.hex_pair()?);
+        let _ = bytes.push(cursor.hex_pair()?);
     }
-    Ok(telegram)
+    Ok(bytes)
 }

@@ -3,8 +3,6 @@
 
 mod answer;
 mod command;
-mod cursor;
-mod digits;
 mod reception;
 mod session;
 

@@ -1,20 +1,27 @@
 // A telegram as a command line has it.
-ghost use Rattle.std.specs.Prelude.{◌≤◌};
+ghost use Rattle.std.specs.Prelude.{◌≡◌};
+ghost use Rattle.few.specs.Items.{items};
 
-mod ops;
+use balise::Reception;
+use few::Few;
 
-/// The bytes of a telegram, at most those of a long one.
+/// A telegram as the antenna would hand it over, and the plug value under which it is read.
 #[derive(Clone, Copy)]
-pub struct TelegramBytes {
-    bytes: [u8; 104],
-    len: usize,
-    ghost within: { len ≤ 104 },
-}
-
-/// A telegram as the antenna hands it over, and the plug value under which it is read.
-#[derive(Clone, Copy)]
-pub struct Reception {
+pub struct Handed {
     pub plug: u8,
     pub crc_good: bool,
-    pub telegram: TelegramBytes,
+    pub bytes: Few<u8, 104>,
+}
+
+impl Handed {
+    /// What the antenna hands over.
+    pub fn reception(&self) -> Reception<'_>
+        ensures bytes { result.bytes.now ≡ items self.now.bytes }
+        ensures crc { result.crc_good ≡ self.now.crc_good }
+    {
+        Reception {
+            bytes: self.bytes.as_slice(),
+            crc_good: self.crc_good,
+        }
+    }
 }

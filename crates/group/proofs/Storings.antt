@@ -1,5 +1,5 @@
 -- The codes that packets store, against the last that was stored.
-use Rattle.std.proofs.Common.{◌≡◌, ℕ, Bool, true, false, cond, ◌⊎◌, ◌↔◌, List, [], ◌∷◌, ◌++◌, Some, None, sym, refl, ap, ◌∙◌, inl, inr, ⊎_elim, arith}
+use Rattle.std.proofs.Common.{◌≡◌, ℕ, Bool, true, false, cond, ◌⊎◌, ◌↔◌, List, [], ◌∷◌, ◌++◌, Some, None, Option, sym, refl, ap, ap₂, ◌∙◌, inl, inr, ⊎_elim, arith}
 use Rattle.std.proofs.lemmas.Bool.{cond-true, cond-false}
 use Rattle.std.specs.List.{AllByRecursion}
 use Rattle.balise.specs.declared.code.Code.{Code}
@@ -15,6 +15,10 @@ none_some x e = let z : ◌≡◌ {A = ℕ} 0 1 = cc in omega arith
 
 pub some_some : {X : Type 0} (x y : X) → Some x ≡ Some y → x ≡ y
 some_some x y e = cc
+
+-- codes that have none stored
+pub no_codes_by : (k : Codes) → k.nominal ≡ None → k.reverse ≡ None → k ≡ no_codes
+no_codes_by k n r = ap₂ (λ (a b : Option Code). let made : Codes = record { nominal = a; reverse = b } in made) n r
 
 -- packets behind others store on top of what those stored
 pub stored-++ : (codes : Codes) (ps qs : List Tbl1Packet) → stored codes (ps ++ qs) ≡ stored (stored codes ps) qs

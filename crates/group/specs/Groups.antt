@@ -1,5 +1,5 @@
 -- How a telegram is heard for the memory of a balise group.
-use Rattle.std.specs.Prelude.{ℕ, Bool, true, false, cond, not, ◌&&◌, List, [], ◌∷◌, Some, None, Ok, Err, Option, Result, ◌==◌, nat_lt}
+use Rattle.std.specs.Prelude.{ℕ, Bool, true, false, cond, not, ◌&&◌, List, Some, None, Ok, Err, Option, Result, ◌==◌, fold, nat_lt}
 use Rattle.balise.specs.declared.code.Code.{Code}
 use Rattle.balise.specs.declared.faults.HeaderFault.{HeaderFault}
 use Rattle.balise.specs.declared.faults.HeaderFault.TheVariants.{OtherTotal}
@@ -60,8 +60,7 @@ replaced codes p = record { nominal = replaced_for Nominal codes p; reverse = re
 
 -- the packets store their codes, in their order
 abbrev pub stored : Codes → List Tbl1Packet → Codes
-stored codes [] = codes
-stored codes (p ∷ ps) = stored (replaced codes p) ps
+stored codes ps = fold replaced codes ps
 
 abbrev pub no_codes : Codes
 no_codes = record { nominal = None; reverse = None }

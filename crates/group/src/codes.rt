@@ -3,9 +3,10 @@ ghost use Rattle.std.specs.Prelude.{◌≡◌};
 ghost use Rattle.group.specs.Groups.{settled, closes, code_for, replaced, stored};
 
 use balise::{Code, Direction, Header, Tbl1Packet};
+use std::cmp::Ordering;
 
 /// The direction in which the train passes a group.
-#[derive(Clone, Copy)]
+#[derive(Clone, Copy, PartialEq, Eq, Debug)]
 pub enum Travel {
     /// N_PIG rises.
     Nominal,
@@ -14,7 +15,7 @@ pub enum Travel {
 }
 
 /// The code stored for each direction of travel, if any.
-#[derive(Clone, Copy)]
+#[derive(Clone, Copy, PartialEq, Eq, Debug, Default)]
 pub struct Codes {
     pub nominal: Option<Code>,
     pub reverse: Option<Code>,
@@ -25,12 +26,11 @@ impl Travel {
     pub(crate) fn settled(known: Option<Travel>, first: u16, position: u16) -> Option<Travel>
         ensures { result ≡ settled known first position }
     {
-        match known {
-            Some(_) => known,
-            None if first < position => Some(Travel::Nominal),
-            None if position < first => Some(Travel::Reverse),
-            None => None,
-        }
+        known.or(match first.cmp(&position) {
+            Ordering::Less => Some(Travel::Nominal),
+            Ordering::Greater => Some(Travel::Reverse),
+            Ordering::Equal => None,
+        })
     }
 
     /// Whether a group passed in this direction closes with this telegram.
@@ -45,12 +45,6 @@ impl Travel {
 }
 
 impl Codes {
-    /// No packet has stored a code yet.
-    pub(crate) const NONE: Codes = Codes {
-        nominal: None,
-        reverse: None,
-    };
-
     /// The code stored for this direction.
     pub(crate) fn of(self, travel: Travel) -> Option<Code>
         ensures { result ≡ code_for travel self }
@@ -81,10 +75,8 @@ impl Codes {
     pub fn store(self, packets: &[Tbl1Packet]) -> Codes
         ensures { result ≡ stored self packets.now }
     {
-        let mut codes = self;
-        for packet in packets {
-            codes = codes.replace(*packet);
-        }
-        codes
+        packets
+            .iter()
+            .fold(self, |codes, packet| codes.replace(*packet))
     }
 }

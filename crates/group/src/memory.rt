@@ -1,13 +1,13 @@
 // The memory of one balise group.
 ghost use Rattle.std.specs.Prelude.{◌≡◌, []};
 ghost use Rattle.group.specs.GroupLaws.{Happening, telegram_of, memory_after, RunGoesOn, GivesTheLastStored, TellsTheVisit, ActsOnce, StaysClosed, DirectionStays, RefusesOtherTotals};
-ghost use Rattle.group.specs.Groups.{group_of, same_group, other_total, asked, begun, gathered, gone_on, heard};
+ghost use Rattle.group.specs.Groups.{group_of, asked, begun, gathered, gone_on, heard};
 
 use crate::codes::{Codes, Travel};
 use balise::{Code, Header, HeaderFault, Tbl1Packet};
 
 /// What a balise group is known by.
-#[derive(Clone, Copy)]
+#[derive(Clone, Copy, PartialEq, Eq, Debug)]
 pub struct GroupId {
     /// NID_C
     pub country: u16,
@@ -16,7 +16,7 @@ pub struct GroupId {
 }
 
 /// A group whose telegrams are being gathered.
-#[derive(Clone, Copy)]
+#[derive(Clone, Copy, PartialEq, Eq, Debug)]
 pub struct OpenGroup {
     pub id: GroupId,
     /// N_TOTAL of its first telegram.
@@ -29,7 +29,7 @@ pub struct OpenGroup {
 }
 
 /// What is remembered of balise groups: one at a time.
-#[derive(Clone, Copy)]
+#[derive(Clone, Copy, PartialEq, Eq, Debug)]
 pub enum Memory {
     Empty,
     Open(OpenGroup),
@@ -38,29 +38,22 @@ pub enum Memory {
 }
 
 /// What hearing a telegram leaves.
-#[derive(Clone, Copy)]
+#[derive(Clone, Copy, PartialEq, Eq, Debug)]
 pub struct Heard {
     pub memory: Memory,
     /// The code of the group that closed with this telegram: it is acted on in this call.
     pub code: Option<Code>,
 }
 
-impl GroupId {
-    /// The group of a telegram.
-    pub(crate) fn new(header: Header) -> GroupId
-        ensures { result ≡ group_of header }
-    {
+/// The group of a telegram.
+impl From<Header> for GroupId {
+    ghost from_gives = { λ header id. id ≡ group_of header };
+
+    fn from(header: Header) -> GroupId {
         GroupId {
             country: header.country,
             group: header.group,
         }
-    }
-
-    /// Whether a telegram is of this group.
-    pub(crate) fn is_of(self, header: Header) -> bool
-        ensures { result ≡ same_group self (group_of header) }
-    {
-        self.country == header.country && self.group == header.group
     }
 }
 
@@ -70,11 +63,11 @@ impl OpenGroup {
         ensures { result ≡ begun header packets.now }
     {
         OpenGroup {
-            id: GroupId::new(header),
+            id: GroupId::from(header),
             total: header.total,
             first: header.position,
             travel: None,
-            codes: Codes::NONE.store(packets),
+            codes: Codes::default().store(packets),
         }
     }
 
@@ -124,22 +117,15 @@ impl Memory {
         Memory::empty()
     }
 
-    /// Whether a telegram is of the open group, with another N_TOTAL than the remembered one.
-    fn has_other_total(self, header: Header) -> bool
-        ensures { result ≡ other_total self header }
-    {
-        match self {
-            Memory::Open(group) => group.id.is_of(header) && group.total != header.total,
-            _ => false,
-        }
-    }
-
     /// The group question: the header, unless its N_TOTAL is not that of the open group.
     pub fn asked(self, header: Header) -> Result<Header, HeaderFault>
         ensures value { result ≡ asked self header }
         ensures refuses_other_totals { RefusesOtherTotals self header result }
     {
-        if self.has_other_total(header) {
+        if let Memory::Open(group) = self
+            && group.id == GroupId::from(header)
+            && group.total != header.total
+        {
             return Err(HeaderFault::OtherTotal);
         }
         Ok(header)
@@ -155,12 +141,13 @@ impl Memory {
         ensures stays_closed { StaysClosed self (telegram_of header packets.now) result }
         ensures direction_stays { DirectionStays self (telegram_of header packets.now) result }
     {
+        let passed = GroupId::from(header);
         match self {
-            Memory::Closed(id) if id.is_of(header) => Heard {
+            Memory::Closed(id) if id == passed => Heard {
                 memory: self,
                 code: None,
             },
-            Memory::Open(group) if group.id.is_of(header) => group.go_on(header, packets),
+            Memory::Open(group) if group.id == passed => group.go_on(header, packets),
             _ => Heard {
                 memory: Memory::Open(OpenGroup::begin(header, packets)),
                 code: None,

@@ -4,7 +4,7 @@ ghost use Rattle.telegram.specs.Telegrams.{accepted_of};
 ghost use Rattle.group.specs.Receiving.{heard_opened, received};
 
 use crate::memory::{Heard, Memory};
-use balise::{FrameFault, HeaderFault};
+use balise::{FrameFault, HeaderFault, Reception};
 use telegram::Frame;
 
 /// A frame is heard: its header accepted, the group asked, its packets read.
@@ -18,11 +18,11 @@ fn hear_frame(memory: Memory, frame: Frame<'_>, plug: u8) -> Result<Heard, Heade
 }
 
 impl Memory {
-    /// What a telegram leaves, from its bytes, the antenna's word on its CRC and the plug value. Where it is refused the caller keeps the memory that it has.
-    pub fn receive(self, bytes: &[u8], crc_good: bool, plug: u8) -> Result<Heard, FrameFault>
-        ensures { result ≡ received self bytes.now crc_good plug }
+    /// What a telegram leaves as the antenna hands it over, under the plug value. Where it is refused the caller keeps the memory that it has.
+    pub fn receive(self, reception: Reception<'_>, plug: u8) -> Result<Heard, FrameFault>
+        ensures { result ≡ received self reception.entry.bytes.now reception.entry.crc_good plug }
     {
-        let frame = Frame::receive(bytes, crc_good)?;
+        let frame = Frame::receive(reception)?;
         Ok(hear_frame(self, frame, plug)?)
     }
 }

@@ -1,0 +1,5 @@
+use Rattle.group.proofs.Storings.{no_codes_by}
+use Rattle.group.proofs.memory.OpenGroup.begin.Goals as goal
+
+pub returns : goal.returns
+returns c = let none = no_codes_by c.default.result c.default.ensures.0 c.default.ensures.1 in cc

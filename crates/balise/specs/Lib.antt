@@ -1,3 +1,4 @@
 pub mod Codes
 pub mod Directions
 pub mod Faults
+pub mod Headers

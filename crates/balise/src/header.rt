@@ -1,4 +1,8 @@
 // The header: the first 50 bits of a telegram.
+ghost use Rattle.std.specs.Prelude.{Some};
+ghost use Rattle.balise.specs.Headers.{header_text};
+
+use std::fmt;
 
 /// The ten fields of a header, in their order.
 #[derive(Clone, Copy, PartialEq, Eq, Debug)]
@@ -23,4 +27,26 @@ pub struct Header {
     pub group: u16,
     /// Q_LINK
     pub link: u16,
+}
+
+/// The ten fields in their order, parted by commas.
+impl fmt::Display for Header {
+    ghost output = { λ header. Some (header_text header) };
+
+    fn fmt<W: fmt::Write>(&self, f: &mut fmt::Formatter<W>) -> fmt::Result {
+        let Header {
+            updown,
+            version,
+            media,
+            position,
+            total,
+            duplicate,
+            counter,
+            country,
+            group,
+            link,
+        } = *self;
+        write!(f, "{updown},{version},{media},{position},{total},")?;
+        write!(f, "{duplicate},{counter},{country},{group},{link}")
+    }
 }

@@ -7,3 +7,4 @@ pub mod Reading
 pub mod Sound
 pub mod Tables
 pub mod Whole
+pub mod Within

@@ -1,5 +1,5 @@
 // Decimal numbers that stand in a line.
-ghost use Rattle.std.specs.Prelude.{◌≡◌, slice_get};
+ghost use Rattle.std.specs.Prelude.{◌≡◌, ◌≤◌, IfSome, IfOk, slice_get};
 ghost use Rattle.text.specs.Cursors.{Reads};
 ghost use Rattle.text.specs.Parts.{opened, opened_by, pushed, pushed_by, decimal_at, number_at};
 
@@ -8,7 +8,8 @@ use crate::fault::Illegal;
 
 /// The number that begins with this byte, unless it is no digit or above the limit.
 fn opened(byte: u8, limit: u64) -> Option<u64>
-    ensures { result ≡ opened limit byte }
+    ensures value { result ≡ opened limit byte }
+    ensures within { IfSome result (λ n. n ≤ limit) }
 {
     if !byte.is_ascii_digit() || u64::from(byte - b'0') > limit {
         return None;
@@ -18,7 +19,8 @@ fn opened(byte: u8, limit: u64) -> Option<u64>
 
 /// The number with one digit more, unless the byte is no digit, would go on a 0 or leads past the limit.
 fn pushed(value: u64, byte: u8, limit: u64) -> Option<u64>
-    ensures { result ≡ pushed limit value byte }
+    ensures value { result ≡ pushed limit value byte }
+    ensures within { IfSome result (λ n. n ≤ limit) }
 {
     if !byte.is_ascii_digit() || value == 0 {
         return None;
@@ -30,21 +32,24 @@ fn pushed(value: u64, byte: u8, limit: u64) -> Option<u64>
 impl Cursor<'_> {
     /// The number that begins here, if one does.
     fn begun(&self, limit: u64) -> Option<u64>
-        ensures { result ≡ opened_by limit (slice_get self.now.line.now self.now.place) }
+        ensures value { result ≡ opened_by limit (slice_get self.now.line.now self.now.place) }
+        ensures within { IfSome result (λ n. n ≤ limit) }
     {
         self.peek().and_then(|byte| opened(byte, limit))
     }
 
     /// This number with the digit that stands here more, if one may go on so.
     fn gone_on(&self, value: u64, limit: u64) -> Option<u64>
-        ensures { result ≡ pushed_by limit value (slice_get self.now.line.now self.now.place) }
+        ensures value { result ≡ pushed_by limit value (slice_get self.now.line.now self.now.place) }
+        ensures within { IfSome result (λ n. n ≤ limit) }
     {
         self.peek().and_then(|byte| pushed(value, byte, limit))
     }
 
     /// A decimal number of at most this limit, with no 0 in front of other digits. It ends where no further digit may follow.
     pub fn decimal(&mut self, limit: u64) -> Result<u64, Illegal>
-        ensures { Reads (decimal_at limit) self.old self.new result }
+        ensures reads { Reads (decimal_at limit) self.old self.new result }
+        ensures within { IfOk result (λ n. n ≤ limit) }
     {
         let Some(mut value) = self.begun(limit) else {
             return Err(self.illegal());

@@ -1,12 +1,12 @@
 -- The direction that the telegrams of a visit settle, against the first telegram with another N_PIG than the first.
 use Rattle.std.proofs.Common.{◌≡◌, ℕ, ◌⊎◌, ◌↔◌, List, [], ◌∷◌, ◌++◌, Some, None, Option, sym, refl, ap, ◌∙◌, inl, inr, ⊎_elim, arith}
 use Rattle.std.proofs.lemmas.Bool.Decides.{nat_tests}
+use Rattle.std.proofs.lemmas.Option.{none-some}
 use Rattle.std.specs.List.{AllByRecursion}
 use Rattle.group.specs.GroupLaws.{Telegram, First, Beyond, Goes}
 use Rattle.group.specs.Groups.{settled}
 use Rattle.group.specs.declared.codes.Travel.{Travel}
 use Rattle.group.specs.declared.codes.Travel.TheVariants.{Nominal, Reverse}
-use Rattle.group.proofs.Storings.{none_some}
 
 -- the first telegram of a visit whose newest is t
 abbrev pub first_of : Telegram → List Telegram → Telegram
@@ -88,18 +88,18 @@ none_level (t ∷ before) e = inr (go (direction before) refl e (none_level befo
 
     go : (o : Option Travel) → direction before ≡ o → settled o (first_of t before).header.position t.header.position ≡ None → (direction before ≡ None → (before ≡ []) ⊎ Level before) → Level (t ∷ before)
     go None d k ih = ⊎_elim start (more k) (ih d)
-    go (Some u) d k ih = absurd (none_some u (sym k))
+    go (Some u) d k ih = absurd (none-some u (sym k))
 
 -- what is settled is the direction that the visit goes
 settled_goes : (telegrams : List Telegram) (d : Travel) → direction telegrams ≡ Some d → Goes d telegrams
-settled_goes [] d e = absurd (none_some d e)
+settled_goes [] d e = absurd (none-some d e)
 settled_goes (t ∷ before) d e = go (direction before) refl e (settled_goes before d)
   where
     later_goes : Goes d before → Goes d (t ∷ before)
     later_goes g = record { x = g.x; same = g.same; y = g.y; later = t ∷ g.later; parts = ap (λ (l : List Telegram). t ∷ l) g.parts; level = g.level; beyond = g.beyond }
 
     start : settled None (first_of t before).header.position t.header.position ≡ Some d → before ≡ [] → Goes d (t ∷ before)
-    start k p = absurd (none_some d (sym (alone t) ∙ ap (λ (l : List Telegram). settled None (first_of t l).header.position t.header.position) (sym p) ∙ k))
+    start k p = absurd (none-some d (sym (alone t) ∙ ap (λ (l : List Telegram). settled None (first_of t l).header.position t.header.position) (sym p) ∙ k))
 
     now_goes : settled None (first_of t before).header.position t.header.position ≡ Some d → Level before → Goes d (t ∷ before)
     now_goes k l = record {

@@ -1,6 +1,7 @@
 -- The laws of the group memory.
-use Rattle.std.proofs.Common.{◌≡◌, ℕ, Bool, true, false, cond, ◌||◌, List, [], ◌∷◌, ◌++◌, Some, None, Option, sym, refl, ap, ◌∙◌, subst, arith}
+use Rattle.std.proofs.Common.{◌≡◌, Bool, true, false, cond, ◌||◌, List, [], ◌∷◌, ◌++◌, Some, None, Option, sym, refl, ap, ◌∙◌, subst}
 use Rattle.std.proofs.lemmas.Bool.{both_ways, cond-true, cond-false}
+use Rattle.std.proofs.lemmas.Option.{none-some}
 use Rattle.std.specs.List.{AllByRecursion}
 use Rattle.balise.specs.declared.code.Code.{Code}
 use Rattle.balise.specs.declared.header.Header.{Header}
@@ -15,7 +16,7 @@ use Rattle.group.specs.declared.memory.Memory.TheVariants.{Open, Closed}
 use Rattle.group.specs.declared.memory.OpenGroup.{OpenGroup}
 use Rattle.group.proofs.Closings.{closes_in, closed, closed_has, closed_stays, ends_closes, not_closed, closed_not, closes_end, end_closes}
 use Rattle.group.proofs.Directions.{first_of, direction, first_of_lem, direction_goes, known_stays}
-use Rattle.group.proofs.Storings.{none_some, stored_last}
+use Rattle.group.proofs.Storings.{stored_last}
 use Rattle.group.proofs.Visits.{group, open_after, remembered, code_in, given, told, remembers, Tracks, tracks, heard_after, visit_longer, same_self}
 
 -- the code that a visit gives
@@ -24,11 +25,11 @@ given_gives t before c = by (closed before) refl (direction (t ∷ before)) refl
   where
     at : (d : Travel) (b : Bool) → closes d t.header ≡ b → closed before ≡ false → direction (t ∷ before) ≡ Some d → cond b (code_for d (stored no_codes (packets_of (t ∷ before)))) None ≡ Some c → Gives c t before
     at d true e o k g = record { d = d; open_yet = closed_not before o; ends = ((direction_goes (t ∷ before) d).0 k, closes_end d t e); stored = (stored_last d c (packets_of (t ∷ before))).0 g }
-    at d false e o k g = absurd (none_some c g)
+    at d false e o k g = absurd (none-some c g)
 
     by : (b : Bool) → closed before ≡ b → (d : Option Travel) → direction (t ∷ before) ≡ d → cond b None (code_in d t.header (stored no_codes (packets_of (t ∷ before)))) ≡ Some c → Gives c t before
-    by true o d k g = absurd (none_some c g)
-    by false o None k g = absurd (none_some c g)
+    by true o d k g = absurd (none-some c g)
+    by false o None k g = absurd (none-some c g)
     by false o (Some d) k g = at d (closes d t.header) refl o k g
 
 gives_given : (t : Telegram) (before : List Telegram) (c : Code) → Gives c t before → given t before ≡ Some c
@@ -98,7 +99,7 @@ acts_once m t newer y older c e a k =
 
 closed_only : (b : Bool) (g h : GroupId) (o : OpenGroup) → cond b (Closed g) (Open o) ≡ Closed h → b ≡ true
 closed_only true g h o e = refl
-closed_only false g h o e = let z : ◌≡◌ {A = ℕ} 0 1 = cc in absurd (omega arith)
+closed_only false g h o e = cc
 
 stays_closed : (m : Memory) (t : Telegram) → StaysClosed m t (hears m t)
 stays_closed m t newer y older e a k =
@@ -108,7 +109,7 @@ stays_closed m t newer y older e a k =
 
 -- a group that is open
 open_only : (b : Bool) (g : GroupId) (o p : OpenGroup) → cond b (Closed g) (Open o) ≡ Open p → o ≡ p
-open_only true g o p e = let z : ◌≡◌ {A = ℕ} 0 1 = cc in absurd (omega arith)
+open_only true g o p e = cc
 open_only false g o p e = cc
 
 open_tracked : (o : OpenGroup) (m : Memory) (telegrams : List Telegram) (d : Travel) → Tracks o.id m telegrams → m ≡ Open o → o.travel ≡ Some d → direction telegrams ≡ Some d

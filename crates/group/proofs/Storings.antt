@@ -1,6 +1,7 @@
 -- The codes that packets store, against the last that was stored.
-use Rattle.std.proofs.Common.{◌≡◌, ℕ, Bool, true, false, cond, ◌⊎◌, ◌↔◌, List, [], ◌∷◌, ◌++◌, Some, None, Option, sym, refl, ap, ap₂, ◌∙◌, inl, inr, ⊎_elim, arith}
+use Rattle.std.proofs.Common.{◌≡◌, Bool, true, false, cond, ◌⊎◌, ◌↔◌, List, [], ◌∷◌, ◌++◌, Some, None, Option, sym, refl, ap, ap₂, ◌∙◌, inl, inr, ⊎_elim}
 use Rattle.std.proofs.lemmas.Bool.{cond-true, cond-false}
+use Rattle.std.proofs.lemmas.Option.{none-some, same_Some}
 use Rattle.std.specs.List.{AllByRecursion}
 use Rattle.balise.specs.declared.code.Code.{Code}
 use Rattle.balise.specs.declared.packet.Tbl1Packet.{Tbl1Packet}
@@ -9,12 +10,6 @@ use Rattle.group.specs.Groups.{stores_for, code_for, replaced, stored, no_codes}
 use Rattle.group.specs.declared.codes.Codes.{Codes}
 use Rattle.group.specs.declared.codes.Travel.{Travel}
 use Rattle.group.specs.declared.codes.Travel.TheVariants.{Nominal, Reverse}
-
-pub none_some : {X : Type 0} (x : X) → None ≡ Some x → ⊥
-none_some x e = let z : ◌≡◌ {A = ℕ} 0 1 = cc in omega arith
-
-pub some_some : {X : Type 0} (x y : X) → Some x ≡ Some y → x ≡ y
-some_some x y e = cc
 
 -- codes that have none stored
 pub no_codes_by : (k : Codes) → k.nominal ≡ None → k.reverse ≡ None → k ≡ no_codes
@@ -51,7 +46,7 @@ stored_from d c (p ∷ ps) codes e = ⊎_elim (λ k. here (stores_for p.directio
     later l = record { before = p ∷ l.before; p = l.p; after = l.after; parts = ap (λ (qs : List Tbl1Packet). p ∷ qs) l.parts; stores = l.stores; code = l.code; last = l.last }
 
     here : (b : Bool) → stores_for p.direction d ≡ b → cond b (Some p.code) (code_for d codes) ≡ Some c → Silent d ps → ((code_for d codes ≡ Some c) × Silent d (p ∷ ps)) ⊎ LastStored d c (p ∷ ps)
-    here true s k silent = inr (record { before = []; p = p; after = ps; parts = refl; stores = s; code = some_some _ _ k; last = silent })
+    here true s k silent = inr (record { before = []; p = p; after = ps; parts = refl; stores = s; code = same_Some _ _ k; last = silent })
     here false s k silent = inl (k, (s, silent))
 
 -- the code stored for a direction, with none at first, is the last that the packets stored for it
@@ -59,7 +54,7 @@ pub stored_last : (d : Travel) (c : Code) (ps : List Tbl1Packet) → (code_for d
 stored_last d c ps = (forth, back)
   where
     forth : code_for d (stored no_codes ps) ≡ Some c → LastStored d c ps
-    forth e = ⊎_elim (λ k. absurd (none_some c (sym (no_codes_lem d) ∙ k.0))) (λ l. l) (stored_from d c ps no_codes e)
+    forth e = ⊎_elim (λ k. absurd (none-some c (sym (no_codes_lem d) ∙ k.0))) (λ l. l) (stored_from d c ps no_codes e)
 
     back : LastStored d c ps → code_for d (stored no_codes ps) ≡ Some c
     back l =

@@ -1,11 +1,9 @@
 -- What follows of packets.
-use Rattle.std.proofs.Common.{◌≡◌, ℕ, suc, ◌+◌, ◌-◌, ◌<◌, ◌≤◌, cond, eqb, ltb, List, [], ◌∷◌, ◌++◌, length, Ok, Err, Result, sym, refl, ap, ◌∙◌, append_assoc, arith}
+use Rattle.std.proofs.Common.{◌≡◌, ℕ, suc, ◌+◌, ◌-◌, ◌<◌, ◌≤◌, List, [], ◌∷◌, ◌++◌, length, Ok, Err, Result, sym, refl, ap, ◌∙◌, append_assoc, arith}
 use Rattle.std.proofs.lemmas.Bool.{cond-true, cond-false, lt-ltb, le-ltb}
-use Rattle.std.proofs.lemmas.Bool.Decides.{nat_tests}
-use Rattle.telegram.specs.Bits.{field}
-use Rattle.telegram.specs.Packets.{Lasts, Within, packet_in, user_packet_in, before, packets_by, packets_from}
+use Rattle.telegram.specs.Packets.{Lasts, Within, packet_in, before, packets_by, packets_from}
 use Rattle.balise.specs.declared.faults.PacketFault.{PacketFault}
-use Rattle.balise.specs.declared.faults.PacketFault.TheVariants.{NoEnd, PastEnd, TooShort}
+use Rattle.balise.specs.declared.faults.PacketFault.TheVariants.{NoEnd}
 use Rattle.telegram.specs.declared.packet.Found.{Found}
 use Rattle.telegram.specs.declared.packet.Found.TheVariants.{End, Other, Tbl1}
 use Rattle.balise.specs.declared.packet.Tbl1Packet.{Tbl1Packet}
@@ -16,29 +14,6 @@ within_by_length (Ok End) length at end l s e = tt
 within_by_length (Ok (Other n)) length at end l s e = (omega arith, omega arith)
 within_by_length (Ok (Tbl1 p)) length at end l s e = omega arith
 within_by_length (Err f) length at end l s e = tt
-
--- a packet's questions up to its identity, where they let packet 44 through
-let_through_44 : (at end id l : ℕ) (user : Result Found PacketFault) → id ≡ 44 → at + 23 ≤ end → 23 ≤ l → at + l ≤ end
-    → user ≡ cond (eqb id 255) (Ok End) (cond (ltb end (at + 23)) (Err (PastEnd at)) (cond (ltb l 23) (Err (TooShort at)) (cond (ltb end (at + l)) (Err (PastEnd at)) (cond (eqb id 44) user (Ok (Other l))))))
-let_through_44 at end id l user e f g h = grind (arith, nat_tests)
-
-same_at : {R : Type 0} (f : List ℕ → ℕ → ℕ → ℕ → R) (b b' : List ℕ) (p p' d d' l l' : ℕ) → b ≡ b' → p ≡ p' → d ≡ d' → l ≡ l' → f b p d l ≡ f b' p' d' l'
-same_at f b b' p p' d d' l l' eb ep ed el = cc
-
--- packet 44 that lies within the telegram is what its user's part reads as
-pub packet_44 : (bytes : List ℕ) (place at end : ℕ) (rest : List ℕ) (p d l : ℕ)
-    → rest ≡ bytes
-    → p ≡ place + 8 + 2 + 13
-    → d ≡ field bytes (place + 8) 2
-    → l ≡ field bytes (place + 8 + 2) 13
-    → field bytes place 8 ≡ 44
-    → at + 23 ≤ end
-    → 23 ≤ l
-    → at + l ≤ end
-    → user_packet_in rest p d l at ≡ packet_in bytes place at end
-packet_44 bytes place at end rest p d l eb ep ed el id fixed least fits =
-    same_at (λ b q e m. user_packet_in b q e m at) rest bytes p (place + 8 + 2 + 13) d (field bytes (place + 8) 2) l (field bytes (place + 8 + 2) 13) eb ep ed el
-    ∙ let_through_44 at end (field bytes place 8) (field bytes (place + 8 + 2) 13) (user_packet_in bytes (place + 8 + 2 + 13) (field bytes (place + 8) 2) (field bytes (place + 8 + 2) 13) at) id fixed (omega arith) (omega arith)
 
 -- packets behind others
 abbrev pub behind : List Tbl1Packet → Result (List Tbl1Packet) PacketFault → Result (List Tbl1Packet) PacketFault

@@ -1,8 +1,7 @@
 -- The count of packets never cuts a reading short.
 use Rattle.std.proofs.Common.{◌≡◌, ℕ, zero, suc, ◌+◌, ◌*◌, ◌<◌, ◌≤◌, cond, eqb, ltb, List, length, Some, None, Ok, Err, Option, Result, sym, refl, ap, suc-add, arith}
-use Rattle.std.proofs.lemmas.Bool.{cond_both, cond-true, eqb-true, lt-ltb, ltb-false}
-use Rattle.balise.specs.Codes.{digit_of}
-use Rattle.balise.specs.Directions.{direction_of}
+use Rattle.std.proofs.lemmas.Bool.{cond_both, cond-true, lt-ltb, ltb-false}
+use Rattle.std.proofs.lemmas.Bool.Decides.{nat_tests}
 use Rattle.balise.specs.declared.code.Digit.{Digit}
 use Rattle.balise.specs.declared.faults.PacketFault.{PacketFault}
 use Rattle.balise.specs.declared.faults.PacketFault.TheVariants.{NoEnd}
@@ -23,14 +22,10 @@ code_lasts d None s at l e = tt
 
 directed_lasts : (bytes : List ℕ) (place : ℕ) (o : Option Direction) (l at : ℕ) → Lasts (directed_packet_in bytes place o l at) l
 directed_lasts bytes place None l at = tt
-directed_lasts bytes place (Some d) l at =
-    let P : Result Found PacketFault → Type 0 = λ r. Lasts r l in
-    cond_both (eqb (field bytes place 9) 13) _ _ P (λ _. cond_both (eqb l 48) _ _ P (λ e. code_lasts d (digit_of (field bytes (place + 9) 8)) (digit_of (field bytes (place + 9 + 8) 8)) at l (eqb-true l 48 e)) (λ _. tt)) (λ _. refl)
+directed_lasts bytes place (Some d) l at = grind (arith, nat_tests, code_lasts)
 
 user_lasts : (bytes : List ℕ) (place dir l at : ℕ) → Lasts (user_packet_in bytes place dir l at) l
-user_lasts bytes place dir l at =
-    let P : Result Found PacketFault → Type 0 = λ r. Lasts r l in
-    cond_both (ltb l 32) _ _ P (λ _. tt) (λ _. directed_lasts bytes place (direction_of dir) l at)
+user_lasts bytes place dir l at = grind (arith, nat_tests, directed_lasts)
 
 -- a packet that is found lies within the telegram
 packet_within : (bytes : List ℕ) (place at end : ℕ) → Within (packet_in bytes place at end) at end
@@ -68,7 +63,7 @@ turns_enough (suc n) m bytes at end h =
     (packets_agree (packet_in bytes at at end) at end (λ next. packets_from (n + m) bytes next end) (λ next. packets_from n bytes next end) (packet_within bytes at at end) (λ next l. turns_enough n m bytes next end (omega arith))))
 
 telegram_short : (n : ℕ) → telegram_bits n ≤ 830
-telegram_short n = cond_both (eqb n 27) 210 _ (λ (b : ℕ). b ≤ 830) (λ _. omega arith) (λ _. cond_both (eqb n 104) 830 0 (λ (b : ℕ). b ≤ 830) (λ _. omega arith) (λ _. omega arith))
+telegram_short n = grind (arith, nat_tests)
 
 pub every_packet_read : (bytes : List ℕ) → EveryPacketRead bytes
 every_packet_read bytes more = turns_enough 34 more bytes 50 (telegram_bits (length bytes)) (omega (arith, telegram_short (length bytes)))

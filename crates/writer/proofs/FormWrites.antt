@@ -1,6 +1,7 @@
 -- A telegram of the writer's form is what the writer writes for its reading.
-use Rattle.std.proofs.Common.{◌≡◌, ℕ, ◌+◌, ◌-◌, ◌^◌, ◌<◌, ◌≤◌, true, false, cond, ltb, List, Ok, sym, refl, ap, ◌∙◌, ⊎_elim, arith}
-use Rattle.std.proofs.lemmas.Bool.{cases_lt, cond-true, cond-false, lt-ltb, le-ltb, ne_eqb, or_from}
+use Rattle.std.proofs.Common.{◌≡◌, ℕ, ◌+◌, ◌-◌, ◌^◌, ◌<◌, ◌≤◌, true, cond, ltb, List, Ok, sym, refl, ap, ◌∙◌, ⊎_elim, arith}
+use Rattle.std.proofs.lemmas.Bool.{cases_lt, cond-true, cond-false, lt-ltb, le-ltb}
+use Rattle.std.proofs.lemmas.Bool.Decides.{nat_tests}
 use Rattle.telegram.proofs.Fields.{bit_below}
 use Rattle.telegram.specs.Bits.{bit, field}
 use Rattle.balise.specs.Codes.{digits, value_of}
@@ -46,25 +47,7 @@ form_fields bytes plug h p a same c end = record {
 -- the fields in the order of the layout
 fields_cut : (bytes : List ℕ) (d : Draft) → Fields bytes d → values (layout d) ≡ cut bytes 0 (widths (layout d))
 unfolding layout
-fields_cut bytes d f =
-    let e0 = f.updown in
-    let e1 = f.version in
-    let e2 = f.media in
-    let e3 = f.position in
-    let e4 = f.total in
-    let e5 = f.duplicate in
-    let e6 = f.counter in
-    let e7 = f.country in
-    let e8 = f.group in
-    let e9 = f.link in
-    let e10 = f.packet in
-    let e11 = f.direction in
-    let e12 = f.size in
-    let e13 = f.user in
-    let e14 = f.first in
-    let e15 = f.second in
-    let e16 = f.end in
-    cc
+fields_cut bytes d f = cc
 
 -- ones up to bit 209, and then zeros
 padding : (bytes : List ℕ) → field bytes 98 112 ≡ 2 ^ 112 - 1 → field bytes 210 6 ≡ 0 → (j : ℕ) → j < 110 → cond (ltb j 104) 1 0 ≡ bit bytes (106 + j)
@@ -113,17 +96,7 @@ form_asked bytes plug h p a same c fit =
     let direction = named direction_value Reverse directions refl (field bytes 58 2) p.direction c.direction in
     let first = named value_of Zero digits refl (field bytes 82 8) p.code.first c.first in
     let second = named value_of Zero digits refl (field bytes 90 8) p.code.second c.second in
-    cond-true _ _ _ fit
-    ∙ cond-false _ _ _ (ne_eqb h.total 0 more)
-    ∙ cond-false _ _ _ (le-ltb h.total h.position (omega (arith, a.within)))
-    ∙ cond-false _ _ _ (ne_eqb (direction_value p.direction) 3 (λ e. not_three (direction_value p.direction) (field bytes 58 2) direction.0 direction.1 e))
-    ∙ cond-false _ _ _ (or_from (ltb 10 (value_of p.code.first)) (ltb 10 (value_of p.code.second)) (ten_most (value_of p.code.first) (field bytes 82 8) first.0 first.1) (ten_most (value_of p.code.second) (field bytes 90 8) second.0 second.1))
-  where
-    not_three : (n m : ℕ) → n ≡ m → m < 3 → n ≡ 3 → ⊥
-    not_three n m e l t = omega arith
-
-    ten_most : (n m : ℕ) → n ≡ m → m < 11 → ltb 10 n ≡ false
-    ten_most n m e l = le-ltb 10 n (omega arith)
+    grind (arith, nat_tests)
 
 pub writes_back : WritesBack
 writes_back bytes plug r p o =

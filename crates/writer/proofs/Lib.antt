@@ -1,7 +1,6 @@
 pub mod Cuts
 pub mod FormParts
 pub mod FormWrites
-pub mod Inverse
 pub mod Laying
 pub mod Numbers
 pub mod ReadingBack

@@ -1,12 +1,11 @@
 -- What is written reads back as written.
-use Rattle.std.proofs.Common.{◌≡◌, ℕ, ◌+◌, ◌≤◌, true, ◌||◌, eqb, ltb, List, Ok, sym, refl, ap, ◌∙◌, arith}
-use Rattle.std.proofs.lemmas.Bool.{eqb-false, ltb-false, or_parts}
+use Rattle.std.proofs.Common.{◌≡◌, ℕ, ◌+◌, ◌≤◌, true, List, get_or, Ok, sym, refl, ap, ◌∙◌, arith}
+use Rattle.std.proofs.lemmas.Bool.Decides.{nat_tests}
 use Rattle.telegram.specs.Bits.{field}
 use Rattle.writer.specs.Drafts.{asked}
 use Rattle.writer.specs.Layouts.{layout, all_fit, laid_bytes}
 use Rattle.writer.specs.declared.draft.Draft.{Draft}
 use Rattle.writer.proofs.Cuts.{widths, values, total, cut, cut_values, field_pad}
-use Rattle.writer.proofs.Inverse.{err_ok, went_then, went_else, heads}
 
 -- a draft that no question concerns
 pub record Askable (d : Draft) : Type 0 where
@@ -19,21 +18,14 @@ pub record Askable (d : Draft) : Type 0 where
 
 pub askable : (d : Draft) → asked d ≡ Ok tt → Askable d
 unfolding asked
-askable d e =
-    let a = went_then (all_fit (layout d)) _ _ (Ok tt) e err_ok in
-    let b = went_else (eqb d.total 0) _ _ (Ok tt) a.1 err_ok in
-    let c = went_else (ltb d.total d.position) _ _ (Ok tt) b.1 err_ok in
-    let f = went_else (eqb d.direction 3) _ _ (Ok tt) c.1 err_ok in
-    let g = went_else (ltb 10 d.first || ltb 10 d.second) _ _ (Ok tt) f.1 err_ok in
-    let h = or_parts (ltb 10 d.first) (ltb 10 d.second) g.0 in
-    record {
-      fit = a.0;
-      more = eqb-false d.total 0 b.0;
-      within = ltb-false d.total d.position c.0;
-      directed = eqb-false d.direction 3 f.0;
-      first_digit = ltb-false 10 d.first h.0;
-      second_digit = ltb-false 10 d.second h.1;
-    }
+askable d e = record {
+  fit = grind (arith, nat_tests);
+  more = grind (arith, nat_tests);
+  within = grind (arith, nat_tests);
+  directed = grind (arith, nat_tests);
+  first_digit = grind (arith, nat_tests);
+  second_digit = grind (arith, nat_tests);
+}
 
 -- the fields of a telegram as a draft gives them
 pub record Fields (bytes : List ℕ) (d : Draft) : Type 0 where
@@ -57,42 +49,26 @@ pub record Fields (bytes : List ℕ) (d : Draft) : Type 0 where
 
 pub fields_by_cut : (bytes : List ℕ) (d : Draft) → cut bytes 0 (widths (layout d)) ≡ values (layout d) → Fields bytes d
 unfolding layout
-fields_by_cut bytes d e0 =
-    let h0 = heads e0 in
-    let h1 = heads h0.1 in
-    let h2 = heads h1.1 in
-    let h3 = heads h2.1 in
-    let h4 = heads h3.1 in
-    let h5 = heads h4.1 in
-    let h6 = heads h5.1 in
-    let h7 = heads h6.1 in
-    let h8 = heads h7.1 in
-    let h9 = heads h8.1 in
-    let h10 = heads h9.1 in
-    let h11 = heads h10.1 in
-    let h12 = heads h11.1 in
-    let h13 = heads h12.1 in
-    let h14 = heads h13.1 in
-    let h15 = heads h14.1 in
-    let h16 = heads h15.1 in
+fields_by_cut bytes d e =
+    let at = λ (k : ℕ). ap (λ (xs : List ℕ). get_or xs k 0) e in
     record {
-      updown = h0.0;
-      version = h1.0;
-      media = h2.0;
-      position = h3.0;
-      total = h4.0;
-      duplicate = h5.0;
-      counter = h6.0;
-      country = h7.0;
-      group = h8.0;
-      link = h9.0;
-      packet = h10.0;
-      direction = h11.0;
-      size = h12.0;
-      user = h13.0;
-      first = h14.0;
-      second = h15.0;
-      end = h16.0;
+      updown = at 0;
+      version = at 1;
+      media = at 2;
+      position = at 3;
+      total = at 4;
+      duplicate = at 5;
+      counter = at 6;
+      country = at 7;
+      group = at 8;
+      link = at 9;
+      packet = at 10;
+      direction = at 11;
+      size = at 12;
+      user = at 13;
+      first = at 14;
+      second = at 15;
+      end = at 16;
     }
 
 pub bits_of_layout : (d : Draft) → total (widths (layout d)) ≡ 106

@@ -7,8 +7,10 @@ use Rattle.telegram.specs.Bits.{bit, number, field}
 use Rattle.writer.specs.Layouts.{fits, all_fit, laid_bit, laid_bytes}
 use Rattle.writer.specs.declared.layout.Field.{Field}
 use Rattle.writer.proofs.Cuts.{widths, values, total, numbers, cut}
-use Rattle.writer.proofs.Inverse.{heads}
 use Rattle.writer.proofs.Numbers.{number_same, number_bit, value_bits}
+
+heads : {A : Type 0} {x y : A} {xs ys : List A} → x ∷ xs ≡ y ∷ ys → (x ≡ y) × (xs ≡ ys)
+heads e = (cc, cc)
 
 pub cut_numbers : (bytes : List ℕ) (at : ℕ) (ws : List ℕ) → cut bytes at ws ≡ numbers (bit bytes) at ws
 unfolding field

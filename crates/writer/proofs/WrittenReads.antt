@@ -1,8 +1,9 @@
 -- The telegram of a draft is accepted and reads as the draft.
-use Rattle.std.proofs.Common.{◌≡◌, ℕ, ◌^◌, ◌<◌, ◌≤◌, true, List, [], ◌∷◌, ◌++◌, length, Some, Ok, Option, Result, sym, refl, ap, ◌∙◌, ap₂, arith}
+use Rattle.std.proofs.Common.{◌≡◌, ℕ, ◌^◌, ◌<◌, ◌≤◌, true, List, [], ◌∷◌, ◌++◌, length, Some, Ok, Option, Result, sym, ap, ◌∙◌, ap₂, arith}
 use Rattle.std.proofs.lemmas.List.{take_at}
 use Rattle.std.proofs.lemmas.Option.{slice_get-get_or}
-use Rattle.std.proofs.lemmas.Bool.{cond-true, cond-false, eq-eqb, ne_eqb, le-ltb}
+use Rattle.std.proofs.lemmas.Bool.{cond-true, eq-eqb}
+use Rattle.std.proofs.lemmas.Bool.Decides.{nat_tests}
 use Rattle.telegram.specs.Bits.{field}
 use Rattle.balise.specs.Codes.{digits, digit_of}
 use Rattle.telegram.specs.Headers.{header_in, header_asked}
@@ -17,10 +18,11 @@ use Rattle.balise.specs.declared.faults.PacketFault.{PacketFault}
 use Rattle.balise.specs.declared.header.Header.{Header}
 use Rattle.balise.specs.declared.packet.Direction.{Direction}
 use Rattle.balise.specs.declared.packet.Direction.TheVariants.{Reverse}
+use Rattle.telegram.specs.declared.packet.Found.{Found}
 use Rattle.telegram.specs.declared.packet.Found.TheVariants.{End, Tbl1}
 use Rattle.balise.specs.declared.packet.Tbl1Packet.{Tbl1Packet}
 use Rattle.telegram.proofs.Fields.{field_below}
-use Rattle.telegram.proofs.Packets.{packet_44, packets_found}
+use Rattle.telegram.proofs.Packets.{packets_found}
 use Rattle.writer.specs.Drafts.{asked}
 use Rattle.writer.specs.Layouts.{layout}
 use Rattle.writer.specs.RoundTrip.{draft_header, draft_packet, draft_reading, ReadsBack}
@@ -30,24 +32,10 @@ use Rattle.writer.proofs.Cuts.{length_laid}
 use Rattle.writer.proofs.ReadingBack.{Askable, askable, Fields, written_fields, written_closing}
 
 header_same : (bytes : List ℕ) (d : Draft) → Fields bytes d → header_in bytes ≡ draft_header d
-header_same bytes d f =
-    let e0 = f.updown in
-    let e1 = f.version in
-    let e2 = f.media in
-    let e3 = f.position in
-    let e4 = f.total in
-    let e5 = f.duplicate in
-    let e6 = f.counter in
-    let e7 = f.country in
-    let e8 = f.group in
-    let e9 = f.link in
-    cc
+header_same bytes d f = cc
 
 header_accepted : (d : Draft) (plug : ℕ) → Askable d → d.version ≤ plug → header_asked plug (draft_header d) ≡ Ok (draft_header d)
-header_accepted d plug a h =
-    cond-false _ _ _ (le-ltb plug d.version h)
-    ∙ cond-false _ _ _ (ne_eqb d.total 0 a.more)
-    ∙ cond-false _ _ _ (le-ltb d.total d.position a.within)
+header_accepted d plug a h = grind (arith, nat_tests)
 
 -- a TBL1+ packet of 48 bits with this direction and these digits
 code_found : (bytes : List ℕ) (dir first second : ℕ) (D : Direction) (F S : Digit)
@@ -61,13 +49,16 @@ code_found bytes dir first second D F S d u f s =
     ∙ cond-true _ _ _ (eq-eqb (field bytes 73 9) 13 u)
     ∙ ap₂ (λ (o p : Option Digit). code_packet D o p 50) f s
 
+-- packet 44 of 48 bits is what its user's part reads as
+packet_44 : (bytes : List ℕ) (found : Result Found PacketFault) → field bytes 50 8 ≡ 44 → field bytes 60 13 ≡ 48 → user_packet_in bytes 73 (field bytes 58 2) 48 50 ≡ found → packet_in bytes 50 50 210 ≡ found
+packet_44 bytes found packet size user = grind (arith, nat_tests)
+
 packet_same : (bytes : List ℕ) (d : Draft) → Askable d → Fields bytes d → packet_in bytes 50 50 210 ≡ Ok (Tbl1 (draft_packet d))
 packet_same bytes d a f =
     let direction = slice_get-get_or directions d.direction Reverse (below_3 d.direction (field bytes 58 2) (field_below bytes 58 2) f.direction a.directed) in
     let first = ap digit_of f.first ∙ slice_get-get_or digits d.first Zero (below_11 d.first a.first_digit) in
     let second = ap digit_of f.second ∙ slice_get-get_or digits d.second Zero (below_11 d.second a.second_digit) in
-    sym (packet_44 bytes 50 50 210 bytes 73 d.direction 48 refl refl (sym f.direction) (sym f.size) f.packet (omega arith) (omega arith) (omega arith))
-    ∙ code_found bytes d.direction d.first d.second _ _ _ direction f.user first second
+    packet_44 bytes _ f.packet f.size (code_found bytes (field bytes 58 2) d.first d.second _ _ _ (ap direction_of f.direction ∙ direction) f.user first second)
   where
     below_3 : (n m : ℕ) → m < 2 ^ 2 → m ≡ n → (n ≡ 3 → ⊥) → n < 3
     below_3 n m l e ne = omega arith
@@ -82,7 +73,7 @@ packets_same bytes p size first end =
     ∙ ap (before p) (packets_found bytes 98 210 33 0 (Ok End) (omega arith) (omega arith) (sym (cond-true _ _ _ (eq-eqb (field bytes 98 8) 255 end))))
 
 frame_same : (bytes : List ℕ) → length bytes ≡ 27 → field bytes 210 6 ≡ 0 → frame_of bytes true ≡ Ok bytes
-frame_same bytes size closing = cond-true _ _ _ (eq-eqb (length bytes) 27 size) ∙ cond-true _ _ _ (eq-eqb (field bytes 210 6) 0 closing)
+frame_same bytes size closing = grind (arith, nat_tests)
 
 -- a frame whose header and packets are these reads as them
 pub reading_by : (bytes : List ℕ) (plug : ℕ) (h : Header) (ps : List Tbl1Packet) → frame_of bytes true ≡ Ok bytes → header_asked plug (header_in bytes) ≡ Ok h → packets_in bytes ≡ Ok ps → reading_of bytes true plug ≡ Ok (record { header = h; packets = ps })

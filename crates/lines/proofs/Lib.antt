@@ -1,14 +1,6 @@
-pub mod Decimals
 pub mod Examples
-pub mod Fields
-pub mod Fronts
 pub mod Laws
-pub mod Loops
-pub mod Numbers
 pub mod Putting
-pub mod Sound
 pub mod StripSizes
 pub mod StripWords
 pub mod Strips
-pub mod Tables
-pub mod Whole

@@ -1,6 +1,4 @@
-pub mod Faults
-pub mod Legal
-pub mod Parts
+pub mod Readings
 pub mod StripLaws
 pub mod StripWords
 pub mod Strips

@@ -1,11 +1,8 @@
-//! What is written down: lines of text, their writers and readers.
+//! What is written down: the strip line, written and read.
 #![tactic(auto)]
 
-mod faults;
-mod parts;
 mod puts;
 mod strip;
-mod words;
 
-pub use faults::TextFault;
 pub use strip::{read_strip, write_strip};
+pub use text::TextFault;

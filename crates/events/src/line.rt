@@ -1,5 +1,4 @@
 // A line that was read.
-ghost use Rattle.std.specs.Prelude.{◌≡◌};
 
 use cab::{Button, Lever, Pulse};
 use few::Few;

@@ -5,30 +5,6 @@ ghost use Rattle.events.specs.Texts.{kind_text, pulse_text, lever_text, button_t
 use cab::{Button, Kind, Lever, Pulse};
 use text::Table;
 
-static KINDS: [Kind; 6] = [
-    Kind::Tick,
-    Kind::Speed,
-    Kind::Pulse,
-    Kind::Lever,
-    Kind::Button,
-    Kind::Telegram,
-];
-
-static PULSES: [Pulse; 2] = [Pulse::Restrictive, Pulse::Clear];
-
-static LEVERS: [Lever; 3] = [Lever::Forward, Lever::Neutral, Lever::Reverse];
-
-static BUTTONS: [Button; 6] = [
-    Button::Bac,
-    Button::Bncv,
-    Button::Bcvr,
-    Button::Bfc,
-    Button::Blj,
-    Button::Blr,
-];
-
-static FLAGS: [bool; 2] = [true, false];
-
 /// The letter of a kind of event, and its comma where more follows.
 pub(crate) struct Kinds;
 
@@ -36,6 +12,7 @@ impl Table for Kinds {
     type Value = Kind;
 
     ghost word = { kind_text };
+
     ghost values = { kinds };
 
     fn text(kind: Kind) -> &'static [u8] {
@@ -50,7 +27,14 @@ impl Table for Kinds {
     }
 
     fn all() -> &'static [Kind] {
-        &KINDS
+        &[
+            Kind::Tick,
+            Kind::Speed,
+            Kind::Pulse,
+            Kind::Lever,
+            Kind::Button,
+            Kind::Telegram,
+        ]
     }
 }
 
@@ -61,6 +45,7 @@ impl Table for Pulses {
     type Value = Pulse;
 
     ghost word = { pulse_text };
+
     ghost values = { pulses };
 
     fn text(pulse: Pulse) -> &'static [u8] {
@@ -71,7 +56,7 @@ impl Table for Pulses {
     }
 
     fn all() -> &'static [Pulse] {
-        &PULSES
+        &[Pulse::Restrictive, Pulse::Clear]
     }
 }
 
@@ -82,6 +67,7 @@ impl Table for Levers {
     type Value = Lever;
 
     ghost word = { lever_text };
+
     ghost values = { levers };
 
     fn text(lever: Lever) -> &'static [u8] {
@@ -93,7 +79,7 @@ impl Table for Levers {
     }
 
     fn all() -> &'static [Lever] {
-        &LEVERS
+        &[Lever::Forward, Lever::Neutral, Lever::Reverse]
     }
 }
 
@@ -104,6 +90,7 @@ impl Table for Buttons {
     type Value = Button;
 
     ghost word = { button_text };
+
     ghost values = { buttons };
 
     fn text(button: Button) -> &'static [u8] {
@@ -118,7 +105,14 @@ impl Table for Buttons {
     }
 
     fn all() -> &'static [Button] {
-        &BUTTONS
+        &[
+            Button::Bac,
+            Button::Bncv,
+            Button::Bcvr,
+            Button::Bfc,
+            Button::Blj,
+            Button::Blr,
+        ]
     }
 }
 
@@ -129,6 +123,7 @@ impl Table for Presses {
     type Value = bool;
 
     ghost word = { press_text };
+
     ghost values = { flags };
 
     fn text(pressed: bool) -> &'static [u8] {
@@ -136,7 +131,7 @@ impl Table for Presses {
     }
 
     fn all() -> &'static [bool] {
-        &FLAGS
+        &[true, false]
     }
 }
 
@@ -147,6 +142,7 @@ impl Table for CrcWords {
     type Value = bool;
 
     ghost word = { crc_text };
+
     ghost values = { flags };
 
     fn text(good: bool) -> &'static [u8] {
@@ -154,6 +150,6 @@ impl Table for CrcWords {
     }
 
     fn all() -> &'static [bool] {
-        &FLAGS
+        &[true, false]
     }
 }

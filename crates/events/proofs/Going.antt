@@ -1,188 +1,160 @@
 -- How the reader's steps go on.
-use Rattle.std.proofs.Common.{◌≡◌, ℕ, zero, suc, ◌+◌, ◌-◌, ◌*◌, ◌<◌, ◌≤◌, Bool, true, false, cond, eqb, List, [], ◌∷◌, ◌++◌, length, get_or, drop, IfSome, Some, None, Ok, Err, Option, sym, refl, ap, ◌∙◌, append_assoc, append-nil, add-zero, add_assoc, zero-add, arith}
-use Rattle.cab.specs.declared.event.Speed.{Speed}
-use Rattle.cab.specs.declared.event.Speed.TheVariants.{Lost, Kmh}
-use Rattle.std.proofs.lemmas.List.{drop_more, drop_all, drop-drop, at_drop_more, at_drop_all}
-use Rattle.std.proofs.lemmas.Bool.{cond-true, cond-false, eq-eqb, ne_eqb}
-use Rattle.text.specs.Parts.{Reading, and_then, alike, begins, digit}
-use Rattle.text.proofs.Loops.{chose_some, chose_none}
+use Rattle.std.proofs.Common.{◌≡◌, ℕ, zero, suc, ◌+◌, ◌-◌, ◌*◌, ◌<◌, ◌≤◌, Bool, true, false, cond, eqb, List, [], ◌∷◌, ◌++◌, length, get_or, slice_get, drop, Some, None, Ok, Err, Option, sym, refl, ap, ◌∙◌, append_assoc, append-nil, add-zero, add_assoc, zero-add, arith, length-append}
+use Rattle.std.specs.Option.{option_eq}
+use Rattle.std.proofs.lemmas.List.{drop_more, drop_all}
+use Rattle.std.proofs.lemmas.Option.{slice_get-get_or}
+use Rattle.text.specs.Parts.{Reading, and_then, byte_in, byte_at, digit, hex_value, hex_in, hex_of, hex_digit_at, hex_pair_at}
 use Rattle.events.specs.Heard.{number, speed_of}
-use Rattle.events.specs.Reads.{digits_in, speed_from, speed_at, hex_value, in_front, pair_then, pairs_from, pairs_at}
+use Rattle.events.specs.Reads.{digits_in, speed_from, speed_at, in_front, pair_then, pairs_from, pairs_at}
 use Rattle.events.specs.Said.{Written, lost, digits}
-use Rattle.events.specs.Steps.{word_here, digit_value, digit_in, hex_in, behind}
-use Rattle.events.proofs.Tables.{byte_here, alike_nil}
-
--- bytes that stand here
-
-pub two_here : (line : List ℕ) (at a b : ℕ) → at + 1 < length line → get_or line at 0 ≡ a → get_or line (at + 1) 0 ≡ b → drop at line ≡ a ∷ (b ∷ drop (at + 2) line)
-two_here line at a b h ea eb = byte_here line at a (omega arith) ea ∙ ap (λ (x : List ℕ). a ∷ x) (byte_here line (at + 1) b h eb ∙ ap (λ (n : ℕ). b ∷ drop n line) (add_assoc at 1 1))
-
-pub three_here : (line : List ℕ) (at a b d : ℕ) → at + 2 < length line → get_or line at 0 ≡ a → get_or line (at + 1) 0 ≡ b → get_or line (at + 2) 0 ≡ d → drop at line ≡ a ∷ (b ∷ (d ∷ drop (at + 3) line))
-three_here line at a b d h ea eb ed = two_here line at a b (omega arith) ea eb ∙ ap (λ (x : List ℕ). a ∷ (b ∷ x)) (byte_here line (at + 2) d h ed ∙ ap (λ (n : ℕ). d ∷ drop n line) (add_assoc at 2 1))
-
--- a word
-
-pub alike_step : (xs ys : List ℕ) (i j : ℕ) → i < length xs → j < length ys → get_or xs i 0 ≡ get_or ys j 0 → alike (drop i xs) (drop j ys) ≡ suc (alike (drop (i + 1) xs) (drop (j + 1) ys))
-alike_step xs ys i j hx hy e =
-    ap (λ (l : List ℕ). alike l (drop j ys)) (drop_more xs i 0 hx) ∙ ap (λ (l : List ℕ). alike (get_or xs i 0 ∷ drop (i + 1) xs) l) (drop_more ys j 0 hy)
-    ∙ cond-true (eqb (get_or xs i 0) (get_or ys j 0)) (suc (alike (drop (i + 1) xs) (drop (j + 1) ys))) 0 (eq-eqb (get_or xs i 0) (get_or ys j 0) e)
-
-pub alike_differs : (xs ys : List ℕ) (i j : ℕ) → i < length xs → j < length ys → (get_or xs i 0 ≡ get_or ys j 0 → ⊥) → alike (drop i xs) (drop j ys) ≡ 0
-alike_differs xs ys i j hx hy e =
-    ap (λ (l : List ℕ). alike l (drop j ys)) (drop_more xs i 0 hx) ∙ ap (λ (l : List ℕ). alike (get_or xs i 0 ∷ drop (i + 1) xs) l) (drop_more ys j 0 hy)
-    ∙ cond-false (eqb (get_or xs i 0) (get_or ys j 0)) (suc (alike (drop (i + 1) xs) (drop (j + 1) ys))) 0 (ne_eqb (get_or xs i 0) (get_or ys j 0) e)
-
-pub alike_over : (xs ys : List ℕ) (i : ℕ) → length xs ≤ i → alike (drop i xs) ys ≡ 0
-alike_over xs ys i h = ap (λ (l : List ℕ). alike l ys) (drop_all i xs h)
-
-pub alike_past : (xs ys : List ℕ) (j : ℕ) → length ys ≤ j → alike xs (drop j ys) ≡ 0
-alike_past xs ys j h = ap (alike xs) (drop_all j ys h) ∙ alike_nil xs
-
-pub word_stops : {A : Type 0} (a : A) (word text : List ℕ) (at here i far : ℕ) → here ≡ at + i → alike text word ≡ i + far → far ≡ 0 → i < length word → Err here ≡ word_here a word text at
-word_stops a word text at here i far e f z h =
-    let g : alike text word ≡ i = omega arith in
-    ap Err (e ∙ ap (λ (n : ℕ). at + n) (sym g)) ∙ sym (cond-false (begins text word) (Ok (a, at + length word)) (Err (at + alike text word)) (ne_eqb (alike text word) (length word) (λ q. omega arith)))
-
-pub word_ends : {A : Type 0} (a : A) (word text : List ℕ) (at here i far : ℕ) → here ≡ at + i → alike text word ≡ i + far → far ≡ 0 → i ≡ length word → Ok (a, here) ≡ word_here a word text at
-word_ends a word text at here i far e f z h =
-    ap (λ (n : ℕ). Ok (a, n)) (e ∙ ap (λ (n : ℕ). at + n) h) ∙ sym (cond-true (begins text word) (Ok (a, at + length word)) (Err (at + alike text word)) (eq-eqb (alike text word) (length word) (omega arith)))
-
--- options
-
-none_some : {X : Type 0} (x : X) → None ≡ Some x → ⊥
-none_some x e = let z : ◌≡◌ {A = ℕ} 0 1 = cc in omega arith
-
-some_same : {X : Type 0} (x y : X) → Some x ≡ Some y → x ≡ y
-some_same x y e = cc
-
-pub some_both : (o : Option ℕ) (n : ℕ) (Q : Type 0) → IfSome o (λ d. d < n) → Q → IfSome o (λ d. (d < n) × Q)
-some_both None n Q h q = tt
-some_both (Some d) n Q h q = (h, q)
-
--- digits
-
-digits_none : (most : ℕ) (text : List ℕ) → None ≡ digit_in text → digits_in (suc most) text ≡ []
-digits_none most [] e = refl
-digits_none most (c ∷ cs) e = here (digit c) e
-  where
-    here : (b : Bool) → None ≡ cond b (Some (c - 48)) None → cond b ((c - 48) ∷ digits_in most cs) [] ≡ []
-    here true e = absurd (none_some (c - 48) e)
-    here false e = refl
-
-digits_some : (most d : ℕ) (text : List ℕ) → Some d ≡ digit_in text → digits_in (suc most) text ≡ d ∷ digits_in most (drop 1 text)
-digits_some most d [] e = absurd (none_some d (sym e))
-digits_some most d (c ∷ cs) e = here (digit c) e
-  where
-    here : (b : Bool) → Some d ≡ cond b (Some (c - 48)) None → cond b ((c - 48) ∷ digits_in most cs) [] ≡ d ∷ digits_in most cs
-    here true e = ap (λ (x : ℕ). x ∷ digits_in most cs) (sym (some_same d (c - 48) e))
-    here false e = absurd (none_some d (sym e))
-
--- the number that these digits go on, and the place behind them
-abbrev pub ahead : ℕ → ℕ → List ℕ → ℕ × ℕ
-ahead first at ds = (number first ds, at + length ds)
-
-pub one_digit : (first at : ℕ) (line : List ℕ) → None ≡ digit_in (drop at line) → (first, at) ≡ ahead first at (digits_in 2 (drop at line))
-one_digit first at line e = ap (λ (n : ℕ). (first, n)) (sym (add-zero at)) ∙ ap (ahead first at) (sym (digits_none 1 (drop at line) e))
-
-pub two_digits : (first at d : ℕ) (line : List ℕ) → Some d ≡ digit_in (drop at line) → None ≡ digit_in (drop (at + 1) line) → (first * 10 + d, at + 1) ≡ ahead first at (digits_in 2 (drop at line))
-two_digits first at d line e n =
-    let rest : digits_in 1 (drop 1 (drop at line)) ≡ [] = ap (digits_in 1) (drop-drop 1 at line) ∙ digits_none 0 (drop (at + 1) line) n in
-    ap (ahead first at) (sym (digits_some 1 d (drop at line) e ∙ ap (λ (x : List ℕ). d ∷ x) rest))
-
-pub three_digits : (first at d u : ℕ) (line : List ℕ) → Some d ≡ digit_in (drop at line) → Some u ≡ digit_in (drop (at + 1) line) → ((first * 10 + d) * 10 + u, at + 2) ≡ ahead first at (digits_in 2 (drop at line))
-three_digits first at d u line e n =
-    let rest : digits_in 1 (drop 1 (drop at line)) ≡ u ∷ [] = ap (digits_in 1) (drop-drop 1 at line) ∙ digits_some 0 u (drop (at + 1) line) n in
-    ap (ahead first at) (sym (digits_some 1 d (drop at line) e ∙ ap (λ (x : List ℕ). d ∷ x) rest))
+use Rattle.events.specs.Steps.{meaning, digit_by, digit_at, behind}
+use Rattle.text.proofs.Loops.{at_get}
 
 -- a speed
 
-abbrev pub speed_is : Reading Written → Reading Speed
-speed_is r = and_then r (λ v n. Ok (speed_of v, n))
+abbrev Numeral : Type 0
+Numeral = List ℕ → ℕ → Reading (Option ℕ)
 
-pub speed_none : (line : List ℕ) (at : ℕ) → length line ≤ at → Err at ≡ speed_is (speed_at line at)
-unfolding speed_at
-speed_none line at h = sym (at_drop_all (λ (xs : List ℕ). speed_is (speed_from xs at)) line at h)
+-- where a digit was read, it goes on this value; otherwise the value is complete
+abbrev pub onto : (ℕ → Numeral) → ℕ → Option ℕ → Numeral
+onto others v None line at = Ok (Some v, at)
+onto others v (Some d) line at = others (v * 10 + d) line at
 
-pub speed_lost : (line : List ℕ) (at : ℕ) → at < length line → get_or line at 0 ≡ 76 → Ok (Lost, at + 1) ≡ speed_is (speed_at line at)
-unfolding speed_at
-speed_lost line at h e = sym (ap (λ (xs : List ℕ). speed_is (speed_from xs at)) (byte_here line at 76 h e))
+-- so many digits at most go on this value
+abbrev pub up_to : ℕ → ℕ → Numeral
+up_to zero v line at = Ok (Some v, at)
+up_to (suc most) v line at = and_then (digit_at line at) (λ o n. onto (up_to most) v o line n)
 
-pub speed_stray : (line : List ℕ) (at : ℕ) → at < length line → (get_or line at 0 ≡ 76 → ⊥) → None ≡ digit_value (get_or line at 0) → Err at ≡ speed_is (speed_at line at)
-unfolding speed_at
-speed_stray line at h n d =
-    let c = get_or line at 0 in
-    let cs = drop (at + 1) line in
-    let some : Reading Written = Ok (digits ((c - 48) ∷ digits_in 2 cs), at + 1 + length (digits_in 2 cs)) in
-    sym (at_drop_more (λ (xs : List ℕ). speed_is (speed_from xs at)) line at 0 h
-    ∙ ap speed_is (cond-false (eqb c 76) (Ok (lost, at + 1)) (cond (digit c) some (Err at)) (ne_eqb c 76 n) ∙ cond-false (digit c) some (Err at) (chose_none (digit c) (c - 48) d)))
+-- a number begins with the digit that was read
+abbrev pub begun : Option ℕ → Numeral
+begun None line at = Err at
+begun (Some d) line at = up_to 2 d line at
 
-pub speed_digits : (line : List ℕ) (at first v n : ℕ) → at < length line → (get_or line at 0 ≡ 76 → ⊥) → Some first ≡ digit_value (get_or line at 0) → (v, n) ≡ ahead first (at + 1) (digits_in 2 (drop (at + 1) line)) → Ok (Kmh v, n) ≡ speed_is (speed_at line at)
-unfolding speed_at
-speed_digits line at first v n h ne d e =
-    let c = get_or line at 0 in
-    let p = chose_some (digit c) first (c - 48) d in
-    let cs = drop (at + 1) line in
-    let some : Reading Written = Ok (digits ((c - 48) ∷ digits_in 2 cs), at + 1 + length (digits_in 2 cs)) in
-    ap (λ (q : ℕ × ℕ). Ok (Kmh q.0, q.1)) (e ∙ ap (λ (x : ℕ). ahead x (at + 1) (digits_in 2 cs)) p.1)
-    ∙ ap (λ (x : ℕ). Ok (Kmh (number x (digits_in 2 cs)), at + 1 + length (digits_in 2 cs))) (sym (zero-add (c - 48)))
-    ∙ sym (at_drop_more (λ (xs : List ℕ). speed_is (speed_from xs at)) line at 0 h
-    ∙ ap speed_is (cond-false (eqb c 76) (Ok (lost, at + 1)) (cond (digit c) some (Err at)) (ne_eqb c 76 ne) ∙ cond-true (digit c) some (Err at) p.0))
+module _ (line : List ℕ) where
+  abbrev made : ℕ → List ℕ → ℕ → Reading (Option ℕ)
+  made v ds at = Ok (Some (number v ds), at + length ds)
+
+  up_to_is : (most v at : ℕ) → made v (digits_in most (drop at line)) at ≡ up_to most v line at
+  up_to_is zero v at = ap (λ (n : ℕ). Ok (Some v, n)) (add-zero at)
+  up_to_is (suc most) v at = at_get (λ o xs. made v (digits_in (suc most) xs) at ≡ and_then (digit_by o at) (λ d n. onto (up_to most) v d line n)) line at (λ c l. some c (up_to_is most (v * 10 + (c - 48)) (at + 1)) (digit c)) ends
+    where
+      ends : made v [] at ≡ Ok (Some v, at)
+      ends = ap (λ (n : ℕ). Ok (Some v, n)) (add-zero at)
+
+      place : (n : ℕ) → at + suc n ≡ at + 1 + n
+      place n = omega arith
+
+      some : (c : ℕ) → made (v * 10 + (c - 48)) (digits_in most (drop (at + 1) line)) (at + 1) ≡ up_to most (v * 10 + (c - 48)) line (at + 1) → (b : Bool) → made v (cond b ((c - 48) ∷ digits_in most (drop (at + 1) line)) []) at ≡ and_then (cond b (Ok (Some (c - 48), at + 1)) (Ok (None, at))) (λ d n. onto (up_to most) v d line n)
+      some c more false = ends
+      some c more true =
+          let ds = digits_in most (drop (at + 1) line) in
+          ap (λ (n : ℕ). Ok (Some (number (v * 10 + (c - 48)) ds), n)) (place (length ds)) ∙ more
+
+  abbrev digits_here : ℕ → ℕ → Bool → Reading Written
+  digits_here at c b = cond b (Ok (digits ((c - 48) ∷ digits_in 2 (drop (at + 1) line)), at + 1 + length (digits_in 2 (drop (at + 1) line)))) (Err at)
+
+  abbrev read_as : Reading Written → Reading (Option ℕ)
+  read_as r = and_then r (λ v n. Ok (speed_of v, n))
+
+  -- no L stands here: the speed is a number
+  pub speed_is_number : (at : ℕ) (o : Option ℕ) → o ≡ slice_get line at → false ≡ option_eq eqb o (Some 76) → meaning speed_of speed_at line at ≡ and_then (digit_at line at) (λ d n. begun d line n)
+  unfolding speed_at
+  speed_is_number at o is other = at_get (λ p xs. false ≡ option_eq eqb p (Some 76) → read_as (speed_from xs at) ≡ and_then (digit_by p at) (λ d n. begun d line n)) line at (λ c l other. some c (sym other)) (λ e. refl) (other ∙ ap (λ (p : Option ℕ). option_eq eqb p (Some 76)) is)
+    where
+      some : (c : ℕ) → eqb c 76 ≡ false → read_as (cond (eqb c 76) (Ok (lost, at + 1)) (digits_here at c (digit c))) ≡ and_then (cond (digit c) (Ok (Some (c - 48), at + 1)) (Ok (None, at))) (λ d n. begun d line n)
+      some c other = ap (λ (k : Bool). read_as (cond k (Ok (lost, at + 1)) (digits_here at c (digit c)))) other ∙ here (digit c)
+        where
+          here : (b : Bool) → read_as (digits_here at c b) ≡ and_then (cond b (Ok (Some (c - 48), at + 1)) (Ok (None, at))) (λ d n. begun d line n)
+          here false = refl
+          here true = ap (λ (v : ℕ). made v (digits_in 2 (drop (at + 1) line)) (at + 1)) (zero-add (c - 48)) ∙ up_to_is 2 (c - 48) (at + 1)
+
+  -- an L stands here: the speed is lost
+  pub speed_is_lost : (at x n : ℕ) (o : Option ℕ) → o ≡ slice_get line at → true ≡ option_eq eqb o (Some 76) → byte_at line at ≡ Ok (x, n) → meaning speed_of speed_at line at ≡ Ok (None, n)
+  unfolding speed_at
+  speed_is_lost at x n o is here = at_get (λ p xs. true ≡ option_eq eqb p (Some 76) → byte_in p at ≡ Ok (x, n) → read_as (speed_from xs at) ≡ Ok (None, n)) line at some (λ e f. cc) (here ∙ ap (λ (p : Option ℕ). option_eq eqb p (Some 76)) is)
+    where
+      same : (p q : ℕ × ℕ) → ◌≡◌ {A = Reading ℕ} (Ok p) (Ok q) → p ≡ q
+      same p q e = cc
+
+      some : (c : ℕ) → at < length line → true ≡ eqb c 76 → ◌≡◌ {A = Reading ℕ} (Ok (c, at + 1)) (Ok (x, n)) → read_as (cond (eqb c 76) (Ok (lost, at + 1)) (digits_here at c (digit c))) ≡ Ok (None, n)
+      some c l e f = ap (λ (k : Bool). read_as (cond k (Ok (lost, at + 1)) (digits_here at c (digit c)))) (sym e) ∙ ap (λ (p : ℕ × ℕ). Ok (None, p.1)) (same (c, at + 1) (x, n) f)
 
 -- pairs
 
-pub behind_none : (r : Reading (List ℕ)) → behind [] r ≡ r
-behind_none (Ok p) = refl
-behind_none (Err place) = refl
+module _ (most : ℕ) (line : List ℕ) (at : ℕ) where
+  abbrev others : ℕ → ℕ → Reading (List ℕ)
+  others b n = in_front b (pairs_from most (drop n line) n)
 
-behind_front : (bytes : List ℕ) (b : ℕ) (r : Reading (List ℕ)) → behind bytes (in_front b r) ≡ behind (bytes ++ (b ∷ [])) r
-behind_front bytes b (Ok p) = ap (λ (x : List ℕ). Ok (x, p.1)) (sym (append_assoc bytes (b ∷ []) p.0))
-behind_front bytes b (Err place) = refl
+  abbrev paired : ℕ → Reading ℕ → Reading (List ℕ)
+  paired v r = and_then (and_then r (λ low m. Ok (16 * v + low, m))) others
 
-pairs_end : (most at : ℕ) → pairs_from most [] at ≡ Ok ([], at)
-pairs_end zero at = refl
-pairs_end (suc most) at = refl
+  second : (h v : ℕ) → hex_value h ≡ Some v → pairs_from (suc most) (h ∷ drop (at + 1) line) at ≡ paired v (hex_digit_at line (at + 1))
+  second h v e = at_get (λ o xs. pairs_from (suc most) (h ∷ xs) at ≡ paired v (hex_of o (at + 1))) line (at + 1) (λ c l. there c) (ap (λ (o : Option ℕ). pair_then o None at (Err at)) e)
+    where
+      low : (o : Option ℕ) → pair_then (Some v) o at (pairs_from most (drop (at + 1 + 1) line) (at + 2)) ≡ paired v (hex_in o (at + 1))
+      low None = refl
+      low (Some w) = ap (λ (n : ℕ). in_front (16 * v + w) (pairs_from most (drop (at + 1 + 1) line) n)) (sym (add_assoc at 1 1))
 
-no_high : (most h : ℕ) (cs : List ℕ) (at : ℕ) → None ≡ hex_value h → pairs_from (suc most) (h ∷ cs) at ≡ Err at
-no_high most h [] at e = ap (λ (o : Option ℕ). pair_then o None at (Err at)) (sym e)
-no_high most h (l ∷ cs) at e = ap (λ (o : Option ℕ). pair_then o (hex_value l) at (pairs_from most cs (at + 2))) (sym e)
+      there : (c : ℕ) → pair_then (hex_value h) (hex_value c) at (pairs_from most (drop (at + 1 + 1) line) (at + 2)) ≡ paired v (hex_in (hex_value c) (at + 1))
+      there c = ap (λ (o : Option ℕ). pair_then o (hex_value c) at (pairs_from most (drop (at + 1 + 1) line) (at + 2))) e ∙ low (hex_value c)
 
-no_low : (most h a : ℕ) (cs : List ℕ) (at : ℕ) → Some a ≡ hex_value h → None ≡ hex_in cs → pairs_from (suc most) (h ∷ cs) at ≡ Err (at + 1)
-no_low most h a [] at e n = ap (λ (o : Option ℕ). pair_then o None at (Err at)) (sym e)
-no_low most h a (l ∷ cs) at e n = ap (λ (o : Option ℕ). pair_then o (hex_value l) at (pairs_from most cs (at + 2))) (sym e) ∙ ap (λ (o : Option ℕ). pair_then (Some a) o at (pairs_from most cs (at + 2))) (sym n)
+  first : (h : ℕ) → pairs_from (suc most) (h ∷ drop (at + 1) line) at ≡ and_then (and_then (hex_in (hex_value h) at) (λ high n. and_then (hex_digit_at line n) (λ low m. Ok (16 * high + low, m)))) others
+  first h = here (hex_value h) refl
+    where
+      none : (xs : List ℕ) → hex_value h ≡ None → pairs_from (suc most) (h ∷ xs) at ≡ Err at
+      none [] e = ap (λ (o : Option ℕ). pair_then o None at (Err at)) e
+      none (l ∷ cs) e = ap (λ (o : Option ℕ). pair_then o (hex_value l) at (pairs_from most cs (at + 2))) e
 
-pair : (most h a b : ℕ) (cs : List ℕ) (at : ℕ) → Some a ≡ hex_value h → Some b ≡ hex_in cs → pairs_from (suc most) (h ∷ cs) at ≡ in_front (16 * a + b) (pairs_from most (drop 1 cs) (at + 2))
-pair most h a b [] at e n = absurd (none_some b (sym n))
-pair most h a b (l ∷ cs) at e n = ap (λ (o : Option ℕ). pair_then o (hex_value l) at (pairs_from most cs (at + 2))) (sym e) ∙ ap (λ (o : Option ℕ). pair_then (Some a) o at (pairs_from most cs (at + 2))) (sym n)
+      here : (o : Option ℕ) → hex_value h ≡ o → pairs_from (suc most) (h ∷ drop (at + 1) line) at ≡ and_then (and_then (hex_in o at) (λ high n. and_then (hex_digit_at line n) (λ low m. Ok (16 * high + low, m)))) others
+      here None e = none (drop (at + 1) line) e
+      here (Some v) e = second h v e
+
+  -- a pair of digits, and then the others
+  pair_next : at < length line → pairs_from (suc most) (drop at line) at ≡ and_then (hex_pair_at line at) others
+  pair_next l =
+      ap (λ (xs : List ℕ). pairs_from (suc most) xs at) (drop_more line at 0 l)
+      ∙ first (get_or line at 0)
+      ∙ ap (λ (o : Option ℕ). and_then (and_then (hex_of o at) (λ high n. and_then (hex_digit_at line n) (λ low m. Ok (16 * high + low, m)))) others) (sym (slice_get-get_or line at 0 l))
 
 -- what is left of the line, behind the bytes that were read
-abbrev pub left : List ℕ → ℕ → List ℕ → ℕ → Reading (List ℕ)
-left bytes len line at = behind bytes (pairs_from (104 - len) (drop at line) at)
+abbrev pub left : List ℕ → List ℕ → ℕ → Reading (List ℕ)
+left bytes line at = behind bytes (pairs_from (104 - length bytes) (drop at line) at)
 
-left_first : (bytes : List ℕ) (len : ℕ) (line : List ℕ) (at : ℕ) → len < 104 → at < length line → left bytes len line at ≡ behind bytes (pairs_from (suc (104 - (len + 1))) (get_or line at 0 ∷ drop (at + 1) line) at)
-left_first bytes len line at h l = ap (λ (n : ℕ). behind bytes (pairs_from n (drop at line) at)) room ∙ ap (λ (x : List ℕ). behind bytes (pairs_from (suc (104 - (len + 1))) x at)) (drop_more line at 0 l)
-  where
-    room : 104 - len ≡ suc (104 - (len + 1))
-    room = omega arith
+module _ (bytes line : List ℕ) (at : ℕ) where
+  pub left_starts : bytes ≡ [] → left bytes line at ≡ pairs_at line at
+  unfolding pairs_at
+  left_starts e = ap (λ (x : List ℕ). left x line at) e ∙ none (pairs_from 104 (drop at line) at)
+    where
+      none : (r : Reading (List ℕ)) → behind [] r ≡ r
+      none (Ok p) = refl
+      none (Err place) = refl
 
-pub left_starts : (line : List ℕ) (from len : ℕ) (bytes : List ℕ) → bytes ≡ [] → len ≡ 0 → pairs_at line from ≡ left bytes len line from
-unfolding pairs_at
-left_starts line from len bytes e z = sym (ap (λ (x : List ℕ). left x len line from) e ∙ ap (λ (n : ℕ). left [] n line from) z ∙ behind_none (pairs_from 104 (drop from line) from))
+  pub left_full : length bytes ≡ 104 → at < length line → left bytes line at ≡ Err at
+  left_full e l = ap (λ (n : ℕ). behind bytes (pairs_from (104 - n) (drop at line) at)) e ∙ ap (λ (xs : List ℕ). behind bytes (pairs_from 0 xs at)) (drop_more line at 0 l)
 
-pub left_full : (bytes : List ℕ) (len : ℕ) (line : List ℕ) (at : ℕ) → len ≡ 104 → at < length line → left bytes len line at ≡ Err at
-left_full bytes len line at e l = ap (λ (n : ℕ). left bytes n line at) e ∙ ap (λ (x : List ℕ). behind bytes (pairs_from 0 x at)) (drop_more line at 0 l)
+  next : length bytes < 104 → at < length line → left bytes line at ≡ behind bytes (and_then (hex_pair_at line at) (others (104 - (length bytes + 1)) line at))
+  next h l = ap (λ (n : ℕ). behind bytes (pairs_from n (drop at line) at)) room ∙ ap (behind bytes) (pair_next (104 - (length bytes + 1)) line at l)
+    where
+      room : 104 - length bytes ≡ suc (104 - (length bytes + 1))
+      room = omega arith
 
-pub left_no_high : (bytes : List ℕ) (len : ℕ) (line : List ℕ) (at : ℕ) → len < 104 → at < length line → None ≡ hex_value (get_or line at 0) → left bytes len line at ≡ Err at
-left_no_high bytes len line at h l e = left_first bytes len line at h l ∙ ap (behind bytes) (no_high (104 - (len + 1)) (get_or line at 0) (drop (at + 1) line) at e)
+  pub left_stops : (place : ℕ) → length bytes < 104 → at < length line → hex_pair_at line at ≡ Err place → left bytes line at ≡ Err place
+  left_stops place h l e = next h l ∙ ap (λ (r : Reading ℕ). behind bytes (and_then r (others (104 - (length bytes + 1)) line at))) e
 
-pub left_no_low : (bytes : List ℕ) (len : ℕ) (line : List ℕ) (at a : ℕ) → len < 104 → at < length line → Some a ≡ hex_value (get_or line at 0) → None ≡ hex_in (drop (at + 1) line) → left bytes len line at ≡ Err (at + 1)
-left_no_low bytes len line at a h l e n = left_first bytes len line at h l ∙ ap (behind bytes) (no_low (104 - (len + 1)) (get_or line at 0) a (drop (at + 1) line) at e n)
+  pub left_pair : (b n : ℕ) → length bytes < 104 → at < length line → hex_pair_at line at ≡ Ok (b, n) → left bytes line at ≡ left (bytes ++ (b ∷ [])) line n
+  left_pair b n h l e =
+      next h l
+      ∙ ap (λ (r : Reading ℕ). behind bytes (and_then r (others (104 - (length bytes + 1)) line at))) e
+      ∙ front (pairs_from (104 - (length bytes + 1)) (drop n line) n)
+      ∙ ap (λ (m : ℕ). behind (bytes ++ (b ∷ [])) (pairs_from (104 - m) (drop n line) n)) (sym (length-append bytes (b ∷ [])))
+    where
+      front : (r : Reading (List ℕ)) → behind bytes (in_front b r) ≡ behind (bytes ++ (b ∷ [])) r
+      front (Ok p) = ap (λ (x : List ℕ). Ok (x, p.1)) (sym (append_assoc bytes (b ∷ []) p.0))
+      front (Err place) = refl
 
-pub left_pair : (bytes : List ℕ) (len : ℕ) (line : List ℕ) (at a b : ℕ) → len < 104 → at < length line → Some a ≡ hex_value (get_or line at 0) → Some b ≡ hex_in (drop (at + 1) line) → left bytes len line at ≡ left (bytes ++ ((16 * a + b) ∷ [])) (len + 1) line (at + 2)
-left_pair bytes len line at a b h l e n =
-    left_first bytes len line at h l
-    ∙ ap (behind bytes) (pair (104 - (len + 1)) (get_or line at 0) a b (drop (at + 1) line) at e n)
-    ∙ behind_front bytes (16 * a + b) (pairs_from (104 - (len + 1)) (drop 1 (drop (at + 1) line)) (at + 2))
-    ∙ ap (λ (x : List ℕ). behind (bytes ++ ((16 * a + b) ∷ [])) (pairs_from (104 - (len + 1)) x (at + 2))) (drop-drop 1 (at + 1) line ∙ ap (λ (k : ℕ). drop k line) (add_assoc at 1 1))
-
-pub left_ends : (bytes : List ℕ) (len : ℕ) (line : List ℕ) (at : ℕ) → length line ≤ at → left bytes len line at ≡ Ok (bytes, at)
-left_ends bytes len line at h = ap (λ (x : List ℕ). behind bytes (pairs_from (104 - len) x at)) (drop_all at line h) ∙ ap (behind bytes) (pairs_end (104 - len) at) ∙ ap (λ (x : List ℕ). Ok (x, at)) (append-nil bytes)
+  pub left_ends : length line ≤ at → left bytes line at ≡ Ok (bytes, at)
+  left_ends h = ap (λ (xs : List ℕ). behind bytes (pairs_from (104 - length bytes) xs at)) (drop_all at line h) ∙ ap (behind bytes) (none (104 - length bytes)) ∙ ap (λ (x : List ℕ). Ok (x, at)) (append-nil bytes)
+    where
+      none : (most : ℕ) → pairs_from most [] at ≡ Ok ([], at)
+      none zero = refl
+      none (suc most) = refl

@@ -8,11 +8,11 @@ use Rattle.cab.specs.declared.event.Lever.{Lever}
 use Rattle.cab.specs.declared.event.Lever.TheVariants.{Forward, Neutral, Reverse}
 use Rattle.cab.specs.declared.event.Pulse.{Pulse}
 use Rattle.cab.specs.declared.event.Pulse.TheVariants.{Restrictive, Clear}
-use Rattle.lines.specs.Faults.{illegal_at}
+use Rattle.text.specs.Faults.{illegal_at}
 use Rattle.text.specs.Legal.{Tells}
 use Rattle.text.specs.Parts.{Reading, and_then, word_at, number_at}
-use Rattle.lines.specs.declared.faults.TextFault.{TextFault}
-use Rattle.lines.specs.declared.faults.TextFault.TheVariants.{Illegal, Short}
+use Rattle.text.specs.declared.fault.TextFault.{TextFault}
+use Rattle.text.specs.declared.fault.TextFault.TheVariants.{Illegal, Short}
 use Rattle.text.proofs.Decimals.{with_comma}
 use Rattle.text.proofs.Numbers.{numbers_sound}
 use Rattle.text.proofs.Sound.{Sound, sound_good}
@@ -20,10 +20,10 @@ use Rattle.text.proofs.Tables.{Among, words_sound}
 use Rattle.events.specs.declared.line.EventLine.{EventLine}
 use Rattle.events.specs.Heard.{line_result, result_meant}
 use Rattle.events.specs.Law.{Lawful, ReadsBack}
-use Rattle.events.specs.Reads.{kinds, pulses, levers, buttons, flags, rest_at, what_at, said, event_read}
+use Rattle.events.specs.Reads.{kinds, pulses, levers, buttons, flags, rest_at, what_at, said, event_at, event_read}
 use Rattle.events.specs.Said.{Happening, tick, speed, pulse, lever, button, telegram, Written, lost, Said, GoodSpeed, GoodWhat, Good}
 use Rattle.events.specs.Texts.{kind_text, kind_of, pulse_text, lever_text, button_text, press_text, crc_text, pairs_text, rest_text, event_text}
-use Rattle.events.proofs.Last.{Last, last_read, last_map, last_then, last_none, sound_last, last_tells, last_reads_back, Composed, Made}
+use Rattle.text.proofs.Last.{Last, last_read, last_map, last_then, last_none, sound_last, last_tells, last_reads_back, Composed, Made}
 use Rattle.events.proofs.Pairs.{Pairs, pairs_last}
 use Rattle.events.proofs.Speeds.{speed_last}
 
@@ -214,9 +214,6 @@ what_last = last_read what_at what_same (last_then All kind_text Of (λ k w. res
     }
 
 -- The whole line.
-
-abbrev event_at : List ℕ → ℕ → Reading Said
-event_at line at = and_then (number_at 9999999999 line at) (λ t n. and_then (what_at line n) (λ w m. Ok (said t w, m)))
 
 event_last : Last Good event_text event_at
 event_last = last_then (λ t. t ≤ 9999999999) with_comma (λ t w. GoodWhat w) (λ t w. what_text w) Good event_text said composed (numbers_sound 9999999999 (omega arith)) (λ t g. what_last)

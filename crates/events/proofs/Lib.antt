@@ -1,6 +1,4 @@
 pub mod Going
-pub mod Last
 pub mod Laws
 pub mod Pairs
 pub mod Speeds
-pub mod Tables

@@ -1,12 +1,12 @@
 -- The bytes of a telegram are read as they are written.
 use Rattle.std.proofs.Common.{◌≡◌, ℕ, zero, suc, ◌+◌, ◌-◌, ◌*◌, ◌/◌, ◌%◌, ◌<◌, ◌≤◌, Bool, true, false, cond, ◌&&◌, eqb, ltb, leb, List, [], ◌∷◌, ◌++◌, length, take, drop, Some, None, Ok, Err, Option, Result, sym, refl, ap, ◌∙◌, subst, ⊎_elim, add-zero, arith, length-drop}
 use Rattle.std.proofs.lemmas.Bool.{and_from, and_parts, and_right, le-leb, lt-leb, leb-true, eq-eqb, cond-true, cond-false, cases_lt, lt-ltb, le-ltb}
-use Rattle.text.specs.Parts.{Reading, ended, digit}
+use Rattle.text.specs.Parts.{Reading, ended, digit, hex_value}
 use Rattle.text.proofs.Fronts.{heads, nil_cons}
-use Rattle.events.specs.Reads.{hex_value, in_front, pair_then, pairs_from, pairs_at}
+use Rattle.events.specs.Reads.{in_front, pair_then, pairs_from, pairs_at}
 use Rattle.events.specs.Said.{Below}
 use Rattle.events.specs.Texts.{hex_digit, pairs_text}
-use Rattle.events.proofs.Last.{Ends, Last}
+use Rattle.text.proofs.Last.{Ends, Last}
 
 none_some : {X : Type 0} (x : X) → None ≡ Some x → ⊥
 none_some x e = let z : ◌≡◌ {A = ℕ} 0 1 = cc in omega arith

@@ -8,7 +8,7 @@ use Rattle.text.proofs.Fronts.{heads, nil_cons, take_past}
 use Rattle.events.specs.Reads.{digits_in, speed_from, speed_at}
 use Rattle.events.specs.Said.{Below, Written, lost, digits, GoodSpeed}
 use Rattle.events.specs.Texts.{speed_text}
-use Rattle.events.proofs.Last.{Ends, Last}
+use Rattle.text.proofs.Last.{Ends, Last}
 
 abbrev digits_text : List ℕ → List ℕ
 digits_text ds = map (λ d. 48 + d) ds

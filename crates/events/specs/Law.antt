@@ -1,8 +1,8 @@
 -- What a line that is read says of the line.
 use Rattle.std.specs.Prelude.{◌≡◌, ℕ, List, Ok, Err, Result}
 use Rattle.text.specs.Legal.{LineOf, IllegalAt}
-use Rattle.lines.specs.declared.faults.TextFault.{TextFault}
-use Rattle.lines.specs.declared.faults.TextFault.TheVariants.{Illegal, Short}
+use Rattle.text.specs.declared.fault.TextFault.{TextFault}
+use Rattle.text.specs.declared.fault.TextFault.TheVariants.{Illegal, Short}
 use Rattle.events.specs.declared.line.EventLine.{EventLine}
 use Rattle.events.specs.Heard.{line_heard, line_meant}
 use Rattle.events.specs.Reads.{event_read}

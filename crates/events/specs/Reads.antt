@@ -1,5 +1,5 @@
 -- How an event line is read, part by part.
-use Rattle.std.specs.Prelude.{ℕ, zero, suc, ◌+◌, ◌-◌, ◌*◌, Bool, true, false, cond, ◌&&◌, List, [], ◌∷◌, length, drop, Some, None, Ok, Err, Option, Result, ◌==◌, nat_le}
+use Rattle.std.specs.Prelude.{ℕ, zero, suc, ◌+◌, ◌-◌, ◌*◌, Bool, true, false, cond, List, [], ◌∷◌, length, drop, Some, None, Ok, Err, Option, Result, ◌==◌}
 use Rattle.cab.specs.declared.event.Button.{Button}
 use Rattle.cab.specs.declared.event.Button.TheVariants.{Bac, Bncv, Bcvr, Bfc, Blj, Blr}
 use Rattle.cab.specs.declared.event.Kind.{Kind}
@@ -8,7 +8,7 @@ use Rattle.cab.specs.declared.event.Lever.{Lever}
 use Rattle.cab.specs.declared.event.Lever.TheVariants.{Forward, Neutral, Reverse}
 use Rattle.cab.specs.declared.event.Pulse.{Pulse}
 use Rattle.cab.specs.declared.event.Pulse.TheVariants.{Restrictive, Clear}
-use Rattle.text.specs.Parts.{Reading, and_then, ended, word_at, number_at, digit}
+use Rattle.text.specs.Parts.{Reading, and_then, ended, word_at, number_at, digit, hex_value}
 use Rattle.events.specs.Said.{Happening, tick, speed, pulse, lever, button, telegram, Written, lost, digits, Said}
 use Rattle.events.specs.Texts.{kind_text, pulse_text, lever_text, button_text, press_text, crc_text}
 
@@ -40,10 +40,6 @@ speed_from (c ∷ cs) at = cond (c == 76) (Ok (lost, at + 1)) (cond (digit c) (O
 -- L, or one decimal digit and up to two more
 unfoldable pub speed_at : List ℕ → ℕ → Reading Written
 speed_at line at = speed_from (drop at line) at
-
--- the value of a hexadecimal digit, '0' to '9' and 'A' to 'F'
-abbrev pub hex_value : ℕ → Option ℕ
-hex_value c = cond (digit c) (Some (c - 48)) (cond (nat_le 65 c && nat_le c 70) (Some (c - 55)) None)
 
 -- this byte in front of the others
 abbrev pub in_front : ℕ → Reading (List ℕ) → Reading (List ℕ)
@@ -83,6 +79,10 @@ what_at line at = and_then (word_at kind_text kinds line at) (λ k n. rest_at k 
 abbrev pub said : ℕ → Happening Written → Said
 said t w = record { time = t; what = w }
 
+-- the time, and then what happened
+abbrev pub event_at : List ℕ → ℕ → Reading Said
+event_at line at = and_then (number_at 9999999999 line at) (λ t n. and_then (what_at line n) (λ w m. Ok (said t w, m)))
+
 -- the whole line: what it says, or the place that is illegal
 abbrev pub event_read : List ℕ → Result Said ℕ
-event_read line = ended line (and_then (number_at 9999999999 line 0) (λ t n. and_then (what_at line n) (λ w m. Ok (said t w, m))))
+event_read line = ended line (event_at line 0)

@@ -1,25 +1,19 @@
 -- What the reader's small steps give.
-use Rattle.std.specs.Prelude.{ℕ, ◌+◌, ◌-◌, cond, List, [], ◌∷◌, ◌++◌, length, Some, None, Ok, Err, Option}
-use Rattle.text.specs.Parts.{Reading, alike, begins, digit}
-use Rattle.events.specs.Reads.{hex_value}
+use Rattle.std.specs.Prelude.{ℕ, ◌+◌, ◌-◌, List, ◌++◌, Some, None, Ok, Err, Option, slice_get, if◌then◌else◌}
+use Rattle.text.specs.Parts.{Reading, and_then, digit}
 
--- this word stands here, or the first byte that differs from it
-abbrev pub word_here : {A : Type 0} → A → List ℕ → List ℕ → ℕ → Reading A
-word_here a word text at = cond (begins text word) (Ok (a, at + length word)) (Err (at + alike text word))
+-- a part, with what its value means
+abbrev pub meaning : {A B : Type 0} → (A → B) → (List ℕ → ℕ → Reading A) → List ℕ → ℕ → Reading B
+meaning f part line at = and_then (part line at) (λ a n. Ok (f a, n))
 
--- the value of a decimal digit
-abbrev pub digit_value : ℕ → Option ℕ
-digit_value c = cond (digit c) (Some (c - 48)) None
+-- the value of this byte, which is passed, if it is a decimal digit
+abbrev pub digit_by : Option ℕ → ℕ → Reading (Option ℕ)
+digit_by (Some c) at = if digit c then Ok (Some (c - 48), at + 1) else Ok (None, at)
+digit_by None at = Ok (None, at)
 
--- the value of the decimal digit in front
-abbrev pub digit_in : List ℕ → Option ℕ
-digit_in [] = None
-digit_in (c ∷ cs) = digit_value c
-
--- the value of the hexadecimal digit in front
-abbrev pub hex_in : List ℕ → Option ℕ
-hex_in [] = None
-hex_in (c ∷ cs) = hex_value c
+-- the value of the decimal digit that stands here, which is passed, if one does
+abbrev pub digit_at : List ℕ → ℕ → Reading (Option ℕ)
+digit_at line at = digit_by (slice_get line at) at
 
 -- what is read, behind these bytes
 abbrev pub behind : List ℕ → Reading (List ℕ) → Reading (List ℕ)

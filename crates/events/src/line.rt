@@ -1,35 +1,33 @@
 // A line that was read.
-ghost use Rattle.std.specs.Prelude.{◌≤◌};
 
-use cab::{Button, Lever, Pulse, Speed};
+use cab::{Button, Lever, Pulse};
+use few::Few;
 
 mod ops;
 
 /// The bytes of a telegram, at most those of a long one.
-#[derive(Clone, Copy)]
-pub struct TelegramBytes {
-    bytes: [u8; 104],
-    len: usize,
-    ghost within: { len ≤ 104 },
-}
+pub(crate) type Bytes = Few<u8, 104>;
 
-/// What a line says, but for the bytes of its telegram.
+/// What happened.
 #[derive(Clone, Copy)]
-pub enum Saying {
+pub(crate) enum What {
     Tick,
-    Speed(Speed),
+    /// The speed in whole km/h, `None` where it is lost.
+    Speed(Option<u16>),
     Pulse(Pulse),
     Lever(Lever),
     Press(Button),
     Release(Button),
-    /// The antenna's word on the CRC.
-    Telegram(bool),
+    Telegram {
+        /// The antenna's word on the CRC.
+        crc_good: bool,
+        bytes: Bytes,
+    },
 }
 
 /// An event line: its time and what happened then.
 #[derive(Clone, Copy)]
 pub struct EventLine {
-    time: u64,
-    says: Saying,
-    telegram: TelegramBytes,
+    pub(crate) time: u64,
+    pub(crate) what: What,
 }

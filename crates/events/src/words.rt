@@ -1,132 +1,155 @@
-// The words of an event line: each is read at a place of the line, and gives its value and the place behind it, or the place of the byte with which no word goes on.
-ghost use Rattle.std.specs.Prelude.{◌≡◌, ◌+◌, ◌<◌, length, drop, slice_index};
-ghost use Rattle.text.specs.Parts.{word_at};
+// The tables of words of an event line.
 ghost use Rattle.events.specs.Reads.{kinds, pulses, levers, buttons, flags};
-ghost use Rattle.events.specs.Steps.{word_here};
 ghost use Rattle.events.specs.Texts.{kind_text, pulse_text, lever_text, button_text, press_text, crc_text};
 
 use cab::{Button, Kind, Lever, Pulse};
+use text::Table;
 
-/// The value, if this word stands here.
-fn word<T: Copy>(value: T, word: &[u8], line: &[u8], at: usize) -> Result<(T, usize), usize>
-    ensures { result ≡ word_here value word.now (drop at line.now) at }
-{
-    let mut here = at;
-    for byte in word {
-        if here >= line.len() || line[here] != *byte {
-            return Err(here);
+/// The letter of a kind of event, and its comma where more follows.
+pub(crate) struct Kinds;
+
+impl Table for Kinds {
+    type Value = Kind;
+
+    ghost word = { kind_text };
+
+    ghost values = { kinds };
+
+    fn text(kind: Kind) -> &'static [u8] {
+        match kind {
+            Kind::Tick => b"K",
+            Kind::Speed => b"S,",
+            Kind::Pulse => b"P,",
+            Kind::Lever => b"L,",
+            Kind::Button => b"B,",
+            Kind::Telegram => b"T,",
         }
-        here += 1;
     }
-    Ok((value, here))
-}
 
-/// The kind of what happened, and its comma where more follows.
-pub(crate) fn kind(line: &[u8], at: usize) -> Result<(Kind, usize), usize>
-    ensures { result ≡ word_at kind_text kinds line.now at }
-{
-    if at >= line.len() {
-        return Err(at);
-    }
-    match line[at] {
-        b'K' => Ok((Kind::Tick, at + 1)),
-        b'S' => word(Kind::Speed, b",", line, at + 1),
-        b'P' => word(Kind::Pulse, b",", line, at + 1),
-        b'L' => word(Kind::Lever, b",", line, at + 1),
-        b'B' => word(Kind::Button, b",", line, at + 1),
-        b'T' => word(Kind::Telegram, b",", line, at + 1),
-        _ => Err(at),
+    fn all() -> &'static [Kind] {
+        &[
+            Kind::Tick,
+            Kind::Speed,
+            Kind::Pulse,
+            Kind::Lever,
+            Kind::Button,
+            Kind::Telegram,
+        ]
     }
 }
 
 /// What the brush felt.
-pub(crate) fn pulse(line: &[u8], at: usize) -> Result<(Pulse, usize), usize>
-    ensures { result ≡ word_at pulse_text pulses line.now at }
-{
-    if at >= line.len() {
-        return Err(at);
+pub(crate) struct Pulses;
+
+impl Table for Pulses {
+    type Value = Pulse;
+
+    ghost word = { pulse_text };
+
+    ghost values = { pulses };
+
+    fn text(pulse: Pulse) -> &'static [u8] {
+        match pulse {
+            Pulse::Restrictive => b"R",
+            Pulse::Clear => b"C",
+        }
     }
-    match line[at] {
-        b'R' => Ok((Pulse::Restrictive, at + 1)),
-        b'C' => Ok((Pulse::Clear, at + 1)),
-        _ => Err(at),
+
+    fn all() -> &'static [Pulse] {
+        &[Pulse::Restrictive, Pulse::Clear]
     }
 }
 
 /// Where the lever is put.
-pub(crate) fn lever(line: &[u8], at: usize) -> Result<(Lever, usize), usize>
-    ensures { result ≡ word_at lever_text levers line.now at }
-{
-    if at >= line.len() {
-        return Err(at);
-    }
-    match line[at] {
-        b'F' => Ok((Lever::Forward, at + 1)),
-        b'N' => Ok((Lever::Neutral, at + 1)),
-        b'R' => Ok((Lever::Reverse, at + 1)),
-        _ => Err(at),
-    }
-}
+pub(crate) struct Levers;
 
-/// Pressed or released.
-pub(crate) fn press(line: &[u8], at: usize) -> Result<(bool, usize), usize>
-    ensures { result ≡ word_at press_text flags line.now at }
-{
-    if at >= line.len() {
-        return Err(at);
-    }
-    match line[at] {
-        b'1' => Ok((true, at + 1)),
-        b'0' => Ok((false, at + 1)),
-        _ => Err(at),
-    }
-}
+impl Table for Levers {
+    type Value = Lever;
 
-/// The antenna's word on the CRC, and its comma.
-pub(crate) fn crc(line: &[u8], at: usize) -> Result<(bool, usize), usize>
-    ensures { result ≡ word_at crc_text flags line.now at }
-{
-    if at >= line.len() {
-        return Err(at);
+    ghost word = { lever_text };
+
+    ghost values = { levers };
+
+    fn text(lever: Lever) -> &'static [u8] {
+        match lever {
+            Lever::Forward => b"F",
+            Lever::Neutral => b"N",
+            Lever::Reverse => b"R",
+        }
     }
-    match line[at] {
-        b'1' => word(true, b",", line, at + 1),
-        b'0' => word(false, b",", line, at + 1),
-        _ => Err(at),
+
+    fn all() -> &'static [Lever] {
+        &[Lever::Forward, Lever::Neutral, Lever::Reverse]
     }
 }
 
 /// A button's name and its comma.
-pub(crate) fn button(line: &[u8], at: usize) -> Result<(Button, usize), usize>
-    ensures { result ≡ word_at button_text buttons line.now at }
-{
-    if at >= line.len() || line[at] != b'B' {
-        return Err(at);
+pub(crate) struct Buttons;
+
+impl Table for Buttons {
+    type Value = Button;
+
+    ghost word = { button_text };
+
+    ghost values = { buttons };
+
+    fn text(button: Button) -> &'static [u8] {
+        match button {
+            Button::Bac => b"BAC,",
+            Button::Bncv => b"BNCV,",
+            Button::Bcvr => b"BCVR,",
+            Button::Bfc => b"BFC,",
+            Button::Blj => b"BLJ,",
+            Button::Blr => b"BLR,",
+        }
     }
-    if at + 1 >= line.len() {
-        return Err(at + 1);
-    }
-    match line[at + 1] {
-        b'A' => word(Button::Bac, b"C,", line, at + 2),
-        b'N' => word(Button::Bncv, b"CV,", line, at + 2),
-        b'C' => word(Button::Bcvr, b"VR,", line, at + 2),
-        b'F' => word(Button::Bfc, b"C,", line, at + 2),
-        b'L' => lamp_button(line, at),
-        _ => Err(at + 1),
+
+    fn all() -> &'static [Button] {
+        &[
+            Button::Bac,
+            Button::Bncv,
+            Button::Bcvr,
+            Button::Bfc,
+            Button::Blj,
+            Button::Blr,
+        ]
     }
 }
 
-/// A button whose name begins as that of one for a lamp.
-fn lamp_button(line: &[u8], at: usize) -> Result<(Button, usize), usize>
-    requires { (at + 1 < length line.now) × ((slice_index line.now at ≡ 66) × (slice_index line.now (at + 1) ≡ 76)) }
-    ensures { result ≡ word_at button_text buttons line.now at }
-{
-    if at + 2 >= line.len() {
-        return Err(at + 2);
+/// Pressed or released.
+pub(crate) struct Presses;
+
+impl Table for Presses {
+    type Value = bool;
+
+    ghost word = { press_text };
+
+    ghost values = { flags };
+
+    fn text(pressed: bool) -> &'static [u8] {
+        if pressed { b"1" } else { b"0" }
     }
-    match line[at + 2] {
-        b'J' => word(Button::Blj, b",", line, at + 3),
-        b'R' => word(Button::Blr, b",", line, at + 3),
-        _ => Err(at + 2),
+
+    fn all() -> &'static [bool] {
+        &[true, false]
+    }
+}
+
+/// The antenna's word on the CRC, and its comma.
+pub(crate) struct CrcWords;
+
+impl Table for CrcWords {
+    type Value = bool;
+
+    ghost word = { crc_text };
+
+    ghost values = { flags };
+
+    fn text(good: bool) -> &'static [u8] {
+        if good { b"1," } else { b"0," }
+    }
+
+    fn all() -> &'static [bool] {
+        &[true, false]
     }
 }

@@ -1,6 +1,7 @@
 pub mod Decimals
 pub mod Fields
 pub mod Fronts
+pub mod Last
 pub mod Loops
 pub mod Numbers
 pub mod Reading

@@ -1,11 +1,16 @@
-use Rattle.std.proofs.Common.{◌≡◌, ◌-◌, length, drop}
-use Rattle.events.specs.Heard.{bytes_of}
-use Rattle.events.specs.Reads.{pairs_at, pairs_from}
-use Rattle.events.specs.Steps.{behind}
+use Rattle.std.proofs.Common.{◌≡◌, ◌-◌, ◌≤◌, length}
+use Rattle.few.specs.Items.{items}
+use Rattle.events.specs.Reads.{pairs_at}
+use Rattle.events.proofs.Going.{left}
 use Rattle.events.proofs.tails.pairs.Given as goal
 
-abbrev pub invariant-loop-at : goal.invariant-loop-at
-invariant-loop-at l = pairs_at l.line l.from ≡ behind (bytes_of l.telegram) (pairs_from (104 - l.telegram.len) (drop l.at l.line) l.at)
+-- what is left of the line goes on these bytes
+abbrev pub invariant-loop-bytes : goal.invariant-loop-bytes
+invariant-loop-bytes l = record {
+  goes_on : left (items l.bytes) l.cursor.line.now l.cursor.place ≡ pairs_at l.fn.cursor.line.now l.fn.cursor.place;
+  same : l.cursor.line.now ≡ l.fn.cursor.line.now;
+  few : length (items l.bytes) ≤ 104;
+}
 
-abbrev pub decreases-loop-at : goal.decreases-loop-at
-decreases-loop-at l = length l.initial.line - l.at
+abbrev pub decreases-loop-bytes : goal.decreases-loop-bytes
+decreases-loop-bytes l = length l.cursor.line.now - l.cursor.place

@@ -3,6 +3,7 @@ ghost use Rattle.std.specs.Prelude.{◌≡◌, length, if◌then◌else◌, nat_
 
 use crate::fault::LogFault;
 use crate::slots::Log;
+use refusal::Refusal;
 use std::test::Fail;
 
 /// Appends one item to an empty log in `slots`: the lender finds it in the first slot, and the other slots as they were.
@@ -24,17 +25,13 @@ fn the_lender_finds_the_item(rt: HostRuntime) {
 fn a_full_log_refuses(rt: HostRuntime) -> Result<(), Fail> {
     let mut slots = [1];
     let mut log = Log::new(&mut slots);
-    assert!(rt; log.append(7).is_ok());
+    log.append(7)?;
     assert!(rt; log.free() == 0 && log.len() == 1);
     let Err(fault) = log.append(8) else {
         return Err(Fail::new("it took a second item"));
     };
-    assert!(rt; fault.refusal().number == 12);
-    match (log.read(0), log.read(1)) {
-        (Ok(item), Err(LogFault::Absent)) => {
-            assert!(rt; item == 7);
-            Ok(())
-        },
-        _ => Err(Fail::new("it holds something else than the one item")),
-    }
+    assert_eq!(rt; Refusal::from(fault).number(), 12);
+    assert_eq!(rt; log.read(0), Ok(7));
+    assert_eq!(rt; log.read(1), Err(LogFault::Absent));
+    Ok(())
 }

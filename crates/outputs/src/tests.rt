@@ -4,7 +4,7 @@ use crate::maintenance::{FaultEntry, store_fault};
 use crate::valve::Valve;
 use crate::valve::contacts::ContactPair;
 use crate::valve::word::OutputWord;
-use cab::{Brake, Kind, Lamp, Mode, Panel, Record, Time};
+use cab::{Kind, Lamp, Mode, Panel, Record, Time};
 use slot_log::{Log, LogFault};
 use std::test::Fail;
 
@@ -14,7 +14,7 @@ fn tick() -> Record {
         kind: Kind::Tick,
         code: None,
         panel: Panel {
-            brake: Brake::Fed,
+            brake: None,
             mode: Mode::Ncv,
             crocodile: false,
             yellow: Lamp::Dark,
@@ -30,7 +30,7 @@ fn a_full_recorder_does_not_keep_the_valve_fed(rt: HostRuntime) {
     let mut strip = Log::new(&mut slots);
     let mut pair = ContactPair::from_contacts(true, true);
     assert!(rt; cut_and_record(&mut pair, &mut strip, tick()) && !pair.is_fed());
-    let mut word = OutputWord::from_word(0xA5C3_5A3C);
+    let mut word = OutputWord::from(0xA5C3_5A3C);
     assert!(rt; word.is_fed());
     assert!(rt; !cut_and_record(&mut word, &mut strip, tick()) && !word.is_fed());
     assert!(rt; strip.len() == 1);
@@ -38,24 +38,19 @@ fn a_full_recorder_does_not_keep_the_valve_fed(rt: HostRuntime) {
 
 #[test]
 fn a_damaged_word_does_not_feed(rt: HostRuntime) {
-    assert!(rt; !OutputWord::from_word(0xA5C3_5A3D).is_fed());
+    assert!(rt; !OutputWord::from(0xA5C3_5A3D).is_fed());
 }
 
 #[test]
 fn the_maintenance_store_is_a_log(rt: HostRuntime) -> Result<(), Fail> {
     let blank = FaultEntry {
         time: Time::zero(),
-        refusal: LogFault::Absent.refusal(),
+        refusal: LogFault::Absent.into(),
     };
     let mut slots = [blank; 1];
     let mut store = Log::new(&mut slots);
-    assert!(rt; store_fault(&mut store, Time::zero(), LogFault::Full.refusal()).is_ok());
-    assert!(rt; store_fault(&mut store, Time::zero(), LogFault::Absent.refusal()).is_err());
-    match store.read(0) {
-        Ok(entry) => {
-            assert!(rt; entry.refusal.number == 12);
-            Ok(())
-        },
-        Err(_) => Err(Fail::new("the store is empty")),
-    }
+    store_fault(&mut store, Time::zero(), LogFault::Full.into())?;
+    assert!(rt; store_fault(&mut store, Time::zero(), LogFault::Absent.into()).is_err());
+    assert_eq!(rt; store.read(0)?.refusal.number(), 12);
+    Ok(())
 }

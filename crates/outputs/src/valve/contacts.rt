@@ -4,7 +4,7 @@ ghost use Rattle.std.specs.Prelude.{◌≡◌, false, ◌&&◌};
 use super::Valve;
 
 /// The valve behind two contacts in series: it is fed while both are closed.
-#[derive(Drop)]
+#[derive(PartialEq, Eq, Debug, Drop)]
 pub struct ContactPair {
     /// Whether the first contact is closed.
     first: bool,
@@ -24,6 +24,7 @@ impl ContactPair {
     }
 
     /// The contacts as the host finds them: whether the first is closed, and whether the second is.
+    // no `From`: of a pair `(bool, bool)` it would not say which contact is which
     pub fn from_contacts(first: bool, second: bool) -> Self
         ensures { (result.first ≡ first) × (result.second ≡ second) }
     {

@@ -11,7 +11,7 @@ const FED: u32 = 0xA5C3_5A3C;
 const CUT: u32 = 0;
 
 /// The valve behind one output word. One word feeds it; every other word cuts it, so that a damaged word brakes.
-#[derive(Drop)]
+#[derive(PartialEq, Eq, Debug, Drop)]
 pub struct OutputWord(u32);
 
 impl OutputWord {
@@ -23,18 +23,21 @@ impl OutputWord {
         OutputWord(CUT)
     }
 
-    /// The output word as the host finds it.
-    pub fn from_word(word: u32) -> Self
-        ensures { result.0 ≡ word }
-    {
-        OutputWord(word)
-    }
-
     /// The word for the host to put out.
+    // no `From`: it would use up the valve, which is no `Copy`, so that no second one goes on fed
     pub fn word(&self) -> u32
         ensures { result ≡ self.now.0 }
     {
         self.0
+    }
+}
+
+/// The output word as the host finds it.
+impl From<u32> for OutputWord {
+    ghost from_gives = { λ word output. output.0 ≡ word };
+
+    fn from(word: u32) -> OutputWord {
+        OutputWord(word)
     }
 }
 
@@ -50,7 +53,7 @@ impl Valve for OutputWord {
     }
 
     fn feed(&mut self) {
-        *self = OutputWord::from_word(FED);
+        *self = OutputWord::from(FED);
     }
 
     fn is_fed(&self) -> bool {

@@ -1,4 +1,3 @@
 pub mod Appending
-pub mod Keeping
 pub mod Texts
 pub mod Words

@@ -2,15 +2,14 @@
 ghost use Rattle.std.specs.Prelude.{◌≡◌};
 ghost use Rattle.bench.specs.Answers.{heard_answer, memory_after};
 
-use crate::digits::{digit_letter, direction_letter, hex_digit, travel_letter};
-use balise::{Code, Header, Tbl1Packet};
+use balise::Code;
 use group::{GroupId, Heard, Memory, OpenGroup};
-use refusal::Refusal;
 use std::fmt;
 use std::fmt::Formatter;
 use telegram::Telegram;
+use text::Hex;
 
-/// The answer to a line.
+/// The answer to a line that is not refused.
 #[derive(Clone, Copy)]
 pub enum Answer {
     /// The telegram that was written.
@@ -25,8 +24,11 @@ pub enum Answer {
     PassedOver(GroupId),
     /// No group is remembered.
     NoGroup,
-    Refused(Refusal),
 }
+
+/// A code as it is printed, or two marks where there is none.
+#[derive(Clone, Copy)]
+struct Stored(Option<Code>);
 
 impl Answer {
     /// What a telegram did that was heard for the group memory.
@@ -46,116 +48,59 @@ impl Answer {
     }
 }
 
-impl fmt::Display for Answer {
+impl fmt::Display for Stored {
     fn fmt<W: fmt::Write>(&self, f: &mut Formatter<W>) -> fmt::Result {
-        match self {
-            Answer::Written(telegram) => show_bytes(telegram, f),
-            Answer::Reading(telegram) => show_reading(telegram, f),
-            Answer::Open(group) => show_open(group, f),
-            Answer::Closed { id, code } => show_closed(*id, *code, f),
-            Answer::PassedOver(id) => show_group('P', *id, f),
-            Answer::NoGroup => f.write_char('F'),
-            Answer::Refused(refusal) => show_refusal(*refusal, f),
+        match self.0 {
+            Some(code) => write!(f, "{code}"),
+            None => f.write_str("--"),
         }
     }
 }
 
-/// Number, place and layer.
-fn show_refusal<W: fmt::Write>(refusal: Refusal, f: &mut Formatter<W>) -> fmt::Result {
-    let Refusal {
-        number,
-        place,
-        layer,
-    } = refusal;
-    write!(f, "E,{number},{place},")?;
-    f.write_str(layer.name())
+impl fmt::Display for Answer {
+    fn fmt<W: fmt::Write>(&self, f: &mut Formatter<W>) -> fmt::Result {
+        match self {
+            Answer::Written(telegram) => {
+                let telegram = Hex(telegram);
+                write!(f, "{telegram}")
+            }
+            Answer::Reading(telegram) => show_reading(telegram, f),
+            Answer::Open(group) => show_open(group, f),
+            Answer::Closed { id, code } => {
+                let code = Stored(*code);
+                write!(f, "C,{id},{code}")
+            }
+            Answer::PassedOver(id) => write!(f, "P,{id}"),
+            Answer::NoGroup => f.write_char('F'),
+        }
+    }
 }
 
-/// A letter, and the group's country and number.
-fn show_group<W: fmt::Write>(letter: char, id: GroupId, f: &mut Formatter<W>) -> fmt::Result {
-    let GroupId { country, group } = id;
-    f.write_char(letter)?;
-    write!(f, ",{country},{group}")
-}
-
-/// A group that closed.
-fn show_closed<W: fmt::Write>(
-    id: GroupId,
-    code: Option<Code>,
-    f: &mut Formatter<W>,
-) -> fmt::Result {
-    show_group('C', id, f)?;
-    show_stored(code, f)
-}
-
-/// Header and packets.
+/// A header, and a comma in front of each packet.
 fn show_reading<W: fmt::Write>(telegram: &Telegram, f: &mut Formatter<W>) -> fmt::Result {
-    show_header(&telegram.header, f)?;
-    show_packets(telegram.packets.as_slice(), f)
-}
-
-/// Two hexadecimal digits for each byte.
-fn show_bytes<W: fmt::Write>(bytes: &[u8], f: &mut Formatter<W>) -> fmt::Result {
-    for byte in bytes {
-        f.write_char(hex_digit(*byte / 16))?;
-        f.write_char(hex_digit(*byte % 16))?;
+    let header = telegram.header;
+    write!(f, "H,{header}")?;
+    for packet in telegram.packets.as_slice() {
+        write!(f, ",{packet}")?;
     }
     Ok(())
 }
 
-/// The ten fields in their order in the telegram.
-fn show_header<W: fmt::Write>(header: &Header, f: &mut Formatter<W>) -> fmt::Result {
-    let fields = [
-        header.updown,
-        header.version,
-        header.media,
-        header.position,
-        header.total,
-        header.duplicate,
-        header.counter,
-        header.country,
-        header.group,
-        header.link,
-    ];
-    f.write_char('H')?;
-    for field in fields {
-        write!(f, ",{field}")?;
-    }
-    Ok(())
-}
-
-/// For each packet a comma, the letter of its direction and its code.
-fn show_packets<W: fmt::Write>(packets: &[Tbl1Packet], f: &mut Formatter<W>) -> fmt::Result {
-    for packet in packets {
-        f.write_char(',')?;
-        f.write_char(direction_letter(packet.direction))?;
-        show_code(packet.code, f)?;
-    }
-    Ok(())
-}
-
-/// The two digits of a code.
-fn show_code<W: fmt::Write>(code: Code, f: &mut Formatter<W>) -> fmt::Result {
-    f.write_char(digit_letter(code.first))?;
-    f.write_char(digit_letter(code.second))
-}
-
-/// A comma and a code, if there is one.
-fn show_stored<W: fmt::Write>(code: Option<Code>, f: &mut Formatter<W>) -> fmt::Result {
-    f.write_char(',')?;
-    match code {
-        Some(code) => show_code(code, f),
-        None => f.write_str("--"),
-    }
-}
-
-/// An open group.
+/// An open group: its name, what its first telegram said, the direction if it is known, and the codes.
 fn show_open<W: fmt::Write>(group: &OpenGroup, f: &mut Formatter<W>) -> fmt::Result {
-    let total = group.total;
-    let first = group.first;
-    show_group('O', group.id, f)?;
-    write!(f, ",{total},{first},")?;
-    f.write_char(travel_letter(group.travel))?;
-    show_stored(group.codes.nominal, f)?;
-    show_stored(group.codes.reverse, f)
+    let OpenGroup {
+        id,
+        total,
+        first,
+        travel,
+        codes,
+    } = *group;
+    write!(f, "O,{id},{total},{first},")?;
+    match travel {
+        Some(travel) => write!(f, "{travel}")?,
+        None => f.write_char('-')?,
+    }
+    let nominal = Stored(codes.nominal);
+    let reverse = Stored(codes.reverse);
+    write!(f, ",{nominal},{reverse}")
 }

@@ -1,14 +1,15 @@
 // The bench at work: the balise group memory, and what each line does.
 ghost use Rattle.std.specs.Prelude.{◌≡◌, Some};
+ghost use Rattle.few.specs.Items.{items};
 ghost use Rattle.telegram.specs.Telegrams.{reading_of};
-ghost use Rattle.bench.specs.Answers.{memory_after, read_by, answer_of, written_answer};
-ghost use Rattle.bench.specs.Receptions.{bytes_of};
+ghost use Rattle.bench.specs.Answers.{memory_left, read_by, answer_of, written_answer};
 
 use crate::answer::Answer;
 use crate::command::Command;
-use crate::reception::Reception;
+use crate::reception::Handed;
 use console::Answerer;
 use group::Memory;
+use refusal::Refusal;
 use std::fmt;
 use std::fmt::Write;
 use writer::Draft;
@@ -24,8 +25,10 @@ pub struct Session {
 
 impl Answerer for Session {
     fn answer(&mut self, line: &[u8], answers: &mut String) -> fmt::Result {
-        let answer = self.reply(line);
-        write!(answers, "{answer}")?;
+        match self.reply(line) {
+            Ok(answer) => write!(answers, "{answer}")?,
+            Err(refusal) => write!(answers, "{refusal}")?,
+        }
         Ok(())
     }
 }
@@ -41,70 +44,52 @@ impl Session {
     }
 
     /// The answer to a line.
-    fn reply(&mut self, line: &[u8]) -> Answer
-        ensures { self.new.memory ≡ memory_after result self.old.memory }
+    fn reply(&mut self, line: &[u8]) -> Result<Answer, Refusal>
+        ensures { self.new.memory ≡ memory_left result self.old.memory }
     {
-        match Command::parse(line) {
-            Ok(command) => self.obey(command),
-            Err(illegal) => Answer::Refused(illegal.refusal()),
-        }
+        let command = Command::parse(line)?;
+        self.obey(command)
     }
 
     /// Does what a command asks.
-    fn obey(&mut self, command: Command) -> Answer
-        ensures { self.new.memory ≡ memory_after result self.old.memory }
+    fn obey(&mut self, command: Command) -> Result<Answer, Refusal>
+        ensures { self.new.memory ≡ memory_left result self.old.memory }
     {
         match command {
             Command::Write(draft) => written(draft),
-            Command::Read(reception) => read(&reception),
-            Command::Hear(reception) => self.hear(&reception),
+            Command::Read(handed) => read(&handed),
+            Command::Hear(handed) => self.hear(&handed),
             Command::Forget => {
                 self.memory = Memory::Empty;
-                Answer::NoGroup
+                Ok(Answer::NoGroup)
             }
         }
     }
 
     /// Hears a telegram for the balise group memory, which a refused one leaves as it was.
-    fn hear(&mut self, reception: &Reception) -> Answer
-        ensures { self.new.memory ≡ memory_after result self.old.memory }
+    fn hear(&mut self, handed: &Handed) -> Result<Answer, Refusal>
+        ensures { self.new.memory ≡ memory_left result self.old.memory }
     {
         let before = self.memory;
-        match before.receive(
-            reception.telegram.as_slice(),
-            reception.crc_good,
-            reception.plug,
-        ) {
-            Ok(heard) => {
-                self.memory = heard.memory;
-                Answer::heard(before, heard)
-            }
-            Err(fault) => Answer::Refused(fault.refusal()),
-        }
+        let heard = before.receive(handed.reception(), handed.plug)?;
+        self.memory = heard.memory;
+        Ok(Answer::heard(before, heard))
     }
 }
 
 /// The answer to `W`.
-fn written(draft: Draft) -> Answer
+fn written(draft: Draft) -> Result<Answer, Refusal>
     ensures { result ≡ written_answer draft }
 {
     let mut telegram = [0; SHORT];
-    match writer::write(draft, &mut telegram) {
-        Ok(()) => Answer::Written(telegram),
-        Err(fault) => Answer::Refused(fault.refusal()),
-    }
+    writer::write(draft, &mut telegram)?;
+    Ok(Answer::Written(telegram))
 }
 
 /// The answer to `R`.
-fn read(reception: &Reception) -> Answer
-    ensures value { read_by result ≡ Some (answer_of (reading_of (bytes_of reception.now.telegram) reception.now.crc_good reception.now.plug)) }
+fn read(handed: &Handed) -> Result<Answer, Refusal>
+    ensures { read_by result ≡ Some (answer_of (reading_of (items handed.now.bytes) handed.now.crc_good handed.now.plug)) }
 {
-    match telegram::read(
-        reception.telegram.as_slice(),
-        reception.crc_good,
-        reception.plug,
-    ) {
-        Ok(telegram) => Answer::Reading(telegram),
-        Err(fault) => Answer::Refused(fault.refusal()),
-    }
+    let telegram = telegram::read(handed.reception(), handed.plug)?;
+    Ok(Answer::Reading(telegram))
 }

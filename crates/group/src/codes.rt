@@ -1,9 +1,11 @@
 // The direction in which a group is passed, and the codes stored for each direction.
-ghost use Rattle.std.specs.Prelude.{◌≡◌};
+ghost use Rattle.std.specs.Prelude.{◌≡◌, Some};
 ghost use Rattle.group.specs.Groups.{settled, closes, code_for, replaced, stored};
+ghost use Rattle.group.specs.Printed.{travel_text};
 
 use balise::{Code, Direction, Header, Tbl1Packet};
 use std::cmp::Ordering;
+use std::fmt;
 
 /// The direction in which the train passes a group.
 #[derive(Clone, Copy, PartialEq, Eq, Debug)]
@@ -78,5 +80,17 @@ impl Codes {
         packets
             .iter()
             .fold(self, |codes, packet| codes.replace(*packet))
+    }
+}
+
+/// The letter of a direction of travel.
+impl fmt::Display for Travel {
+    ghost output = { λ travel. Some (travel_text travel) };
+
+    fn fmt<W: fmt::Write>(&self, f: &mut fmt::Formatter<W>) -> fmt::Result {
+        f.write_str(match self {
+            Travel::Nominal => "N",
+            Travel::Reverse => "R",
+        })
     }
 }

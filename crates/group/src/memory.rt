@@ -1,10 +1,12 @@
 // The memory of one balise group.
-ghost use Rattle.std.specs.Prelude.{◌≡◌, []};
+ghost use Rattle.std.specs.Prelude.{◌≡◌, [], Some};
 ghost use Rattle.group.specs.GroupLaws.{Happening, telegram_of, memory_after, RunGoesOn, GivesTheLastStored, TellsTheVisit, ActsOnce, StaysClosed, DirectionStays, RefusesOtherTotals};
 ghost use Rattle.group.specs.Groups.{group_of, asked, begun, gathered, gone_on, heard};
+ghost use Rattle.group.specs.Printed.{group_text};
 
 use crate::codes::{Codes, Travel};
 use balise::{Code, Header, HeaderFault, Tbl1Packet};
+use std::fmt;
 
 /// What a balise group is known by.
 #[derive(Clone, Copy, PartialEq, Eq, Debug)]
@@ -54,6 +56,16 @@ impl From<Header> for GroupId {
             country: header.country,
             group: header.group,
         }
+    }
+}
+
+/// A group's country and number, parted by a comma.
+impl fmt::Display for GroupId {
+    ghost output = { λ id. Some (group_text id) };
+
+    fn fmt<W: fmt::Write>(&self, f: &mut fmt::Formatter<W>) -> fmt::Result {
+        let GroupId { country, group } = *self;
+        write!(f, "{country},{group}")
     }
 }
 

@@ -1,5 +1,5 @@
 -- Where a part is illegal, that is in the line.
-use Rattle.std.proofs.Common.{◌≡◌, ℕ, ◌+◌, ◌*◌, ◌<◌, ◌≤◌, Bool, true, false, cond, eqb, leb, ◌&&◌, List, [], ◌∷◌, ◌-◌, length, slice_get, drop, Some, None, Ok, Err, Option, Result, refl, arith}
+use Rattle.std.proofs.Common.{◌≡◌, ℕ, ◌+◌, ◌*◌, ◌<◌, ◌≤◌, Bool, true, false, cond, eqb, leb, ◌&&◌, List, [], ◌∷◌, ◌-◌, length, slice_get, drop, Some, None, Ok, Err, Option, Result, refl, sym, ap, arith}
 use Rattle.text.specs.Parts.{Reading, and_then, byte_in, byte_at, this_in, this_at, end_at, digit, digits_up, decimal_from, decimal_at, hex_value, hex_in, hex_of, hex_digit_at, hex_pair_at}
 use Rattle.text.proofs.Loops.{at_get}
 
@@ -66,3 +66,26 @@ hex_pair_stays line at place h =
     ways : (o : Option ℕ) → at < length line → and_then (hex_in o at) (λ high n. and_then (hex_digit_at line n) (λ low m. Ok (16 * high + low, m))) ≡ Err place → place ≤ length line
     ways (Some high) l e = second high l (hex_digit_at line (at + 1)) (λ q i. digit_stays (slice_get line (at + 1)) (at + 1) q i) e
     ways None l e = omega (arith, l, err_same {A = ℕ × ℕ} at place e)
+
+-- a pair of digits that was read was passed
+pub hex_pair_moves : (line : List ℕ) (at v place : ℕ) → hex_pair_at line at ≡ Ok (v, place) → at < place
+hex_pair_moves line at v place e = first (slice_get line at) e
+  where
+    ok_same : (p q : ℕ × ℕ) → ◌≡◌ {A = Reading ℕ} (Ok p) (Ok q) → p ≡ q
+    ok_same p q e = cc
+
+    second : (high : ℕ) (o : Option ℕ) → and_then (hex_of o (at + 1)) (λ low m. Ok (16 * high + low, m)) ≡ Ok (v, place) → at < place
+    second high (Some c) e = ways (hex_value c) e
+      where
+        ways : (o : Option ℕ) → and_then (hex_in o (at + 1)) (λ low m. Ok (16 * high + low, m)) ≡ Ok (v, place) → at < place
+        ways (Some low) e = omega (arith, ap (λ (p : ℕ × ℕ). p.1) (ok_same (16 * high + low, at + 1 + 1) (v, place) e))
+        ways None e = absurd (ok_err (v, place) (at + 1) (sym e))
+    second high None e = absurd (ok_err (v, place) (at + 1) (sym e))
+
+    first : (o : Option ℕ) → and_then (hex_of o at) (λ high n. and_then (hex_digit_at line n) (λ low m. Ok (16 * high + low, m))) ≡ Ok (v, place) → at < place
+    first (Some c) e = ways (hex_value c) e
+      where
+        ways : (o : Option ℕ) → and_then (hex_in o at) (λ high n. and_then (hex_digit_at line n) (λ low m. Ok (16 * high + low, m))) ≡ Ok (v, place) → at < place
+        ways (Some high) e = second high (slice_get line (at + 1)) e
+        ways None e = absurd (ok_err (v, place) at (sym e))
+    first None e = absurd (ok_err (v, place) at (sym e))

@@ -114,6 +114,7 @@ impl OpenGroup {
 
 impl Memory {
     /// No group is remembered.
+    // Not Default: what an empty memory is after a run is promised here.
     pub fn empty() -> Memory
         ensures value { result ≡ Memory.Empty }
         ensures run_begins { result ≡ memory_after [] }
@@ -144,6 +145,7 @@ impl Memory {
     }
 
     /// What a telegram leaves that no question refused: the memory, and the code that is acted on.
+    // Not a telegram::Telegram, which holds 16 packets at most: this is promised of any number of packets.
     pub fn heard(self, header: Header, packets: &[Tbl1Packet]) -> Heard
         ensures value { result ≡ heard self header packets.now }
         ensures run_goes_on { RunGoesOn self (Happening.telegram (telegram_of header packets.now)) result.memory }

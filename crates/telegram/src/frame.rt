@@ -1,5 +1,5 @@
 // The states of a telegram. Each is a type of its own: only a telegram whose header was accepted has packets to read.
-ghost use Rattle.std.specs.Prelude.{◌≡◌, length, Some};
+ghost use Rattle.std.specs.Prelude.{◌≡◌, ◌<◌, ◌≤◌, length, Some};
 ghost use Rattle.telegram.specs.Bits.{field};
 ghost use Rattle.telegram.specs.Forms.{form_of};
 ghost use Rattle.telegram.specs.Headers.{header_in};
@@ -26,6 +26,8 @@ pub struct Accepted<'a> {
     frame: Frame<'a>,
     header: Header,
     ghost in_frame: { header ≡ header_in frame.bytes.now },
+    ghost from_balise: { (header.updown ≡ 1) × (header.media ≡ 0) },
+    ghost in_group: { (0 < header.total) × (header.position ≤ header.total) },
 }
 
 /// The first bit of the first packet.
@@ -68,7 +70,8 @@ impl Accepted<'_> {
 
     /// The header.
     pub fn header(&self) -> Header
-        ensures { result ≡ self.now.header }
+        ensures value { result ≡ self.now.header }
+        ensures in_frame { result ≡ header_in self.now.frame.bytes.now }
     {
         self.header
     }

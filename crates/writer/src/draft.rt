@@ -6,6 +6,7 @@ use crate::faults::WriteFault;
 use crate::layout::all_fit;
 
 /// The values of a telegram to be written.
+// Numbers as they come, not Digit and Direction: what is wrong with them is the writer's to find.
 #[derive(Clone, Copy, PartialEq, Eq, Debug)]
 pub struct Draft {
     /// M_VERSION

@@ -1,74 +1,32 @@
 // What happens, in words.
-ghost use Rattle.std.specs.Prelude.{◌≡◌, ◌<◌};
-ghost use Rattle.linebench.specs.Words.{button_name, hex_digit};
+ghost use Rattle.std.specs.Prelude.{Some};
+ghost use Rattle.linebench.specs.Words.{happening_text};
 
-use cab::{Button, Event, Lever, Pulse, Speed};
+use cab::Event;
 use std::fmt;
-use std::fmt::Write;
+use text::Hex;
 
 /// An event in words.
-pub fn show_happening(event: Event<'_>, answers: &mut String) -> fmt::Result {
-    match event {
-        Event::Tick => answers.write_str("tick"),
-        Event::Speed(speed) => show_speed(speed, answers),
-        Event::Pulse(Pulse::Restrictive) => answers.write_str("pulse,restrictive"),
-        Event::Pulse(Pulse::Clear) => answers.write_str("pulse,clear"),
-        Event::Lever(Lever::Forward) => answers.write_str("lever,forward"),
-        Event::Lever(Lever::Neutral) => answers.write_str("lever,neutral"),
-        Event::Lever(Lever::Reverse) => answers.write_str("lever,reverse"),
-        Event::Press(button) => show_button("press,", button, answers),
-        Event::Release(button) => show_button("release,", button, answers),
-        Event::Telegram { crc_good, bytes } => show_telegram(crc_good, bytes, answers),
-    }
-}
+#[derive(Clone, Copy)]
+pub struct Happening<'a>(pub Event<'a>);
 
-fn show_speed(speed: Speed, answers: &mut String) -> fmt::Result {
-    match speed {
-        Speed::Lost => answers.write_str("speed,lost"),
-        Speed::Kmh(kmh) => Ok(write!(answers, "speed,{kmh}")?),
-    }
-}
+impl fmt::Display for Happening<'_> {
+    ghost output = { λ happening. Some (happening_text happening.0) };
 
-fn show_button(what: &str, button: Button, answers: &mut String) -> fmt::Result {
-    answers.write_str(what)?;
-    answers.write_str(button_name(button))
-}
-
-/// The button's name in capitals.
-fn button_name(button: Button) -> &'static str
-    ensures { result.now ≡ button_name button }
-{
-    match button {
-        Button::Bac => "BAC",
-        Button::Bncv => "BNCV",
-        Button::Bcvr => "BCVR",
-        Button::Bfc => "BFC",
-        Button::Blj => "BLJ",
-        Button::Blr => "BLR",
-    }
-}
-
-fn show_telegram(crc_good: bool, bytes: &[u8], answers: &mut String) -> fmt::Result {
-    answers.write_str(if crc_good {
-        "telegram,good,"
-    } else {
-        "telegram,bad,"
-    })?;
-    for byte in bytes {
-        answers.write_char(hex_digit(*byte / 16))?;
-        answers.write_char(hex_digit(*byte % 16))?;
-    }
-    Ok(())
-}
-
-/// The hexadecimal digit of this value.
-fn hex_digit(value: u8) -> char
-    requires { value < 16 }
-    ensures { result ≡ hex_digit value }
-{
-    if value < 10 {
-        char::from(b'0' + value)
-    } else {
-        char::from(b'A' + (value - 10))
+    fn fmt<W: fmt::Write>(&self, f: &mut fmt::Formatter<W>) -> fmt::Result {
+        match self.0 {
+            Event::Tick => f.write_str("tick"),
+            Event::Speed(None) => f.write_str("speed,lost"),
+            Event::Speed(Some(kmh)) => write!(f, "speed,{kmh}"),
+            Event::Pulse(pulse) => write!(f, "pulse,{pulse}"),
+            Event::Lever(lever) => write!(f, "lever,{lever}"),
+            Event::Press(button) => write!(f, "press,{button}"),
+            Event::Release(button) => write!(f, "release,{button}"),
+            Event::Telegram(reception) => {
+                let crc = if reception.crc_good { "good" } else { "bad" };
+                let bytes = Hex(reception.bytes);
+                write!(f, "telegram,{crc},{bytes}")
+            }
+        }
     }
 }

@@ -1,9 +1,9 @@
 // What each line is answered by.
-use crate::shown::show_happening;
+use crate::shown::Happening;
 use cab::Record;
 use console::Answerer;
 use events::read_event;
-use lines::{TextFault, read_strip, write_strip};
+use lines::{read_strip, write_strip};
 use refusal::Refusal;
 use std::fmt;
 use std::fmt::Write;
@@ -31,7 +31,7 @@ impl Answerer for Transcript {
 fn show_strip(line: &[u8], answers: &mut String) -> fmt::Result {
     match read_strip(line) {
         Ok(record) => show_record(record, answers),
-        Err(fault) => show_fault(fault, answers),
+        Err(fault) => show_refusal(fault.into(), answers),
     }
 }
 
@@ -39,13 +39,10 @@ fn show_strip(line: &[u8], answers: &mut String) -> fmt::Result {
 fn show_record(record: Record, answers: &mut String) -> fmt::Result {
     let mut text = [0; STRIP_LINE];
     if let Err(fault) = write_strip(record, &mut text) {
-        return show_fault(fault, answers);
+        return show_refusal(fault.into(), answers);
     }
-    for byte in text {
-        if byte == LINE_END {
-            break;
-        }
-        answers.write_char(char::from(byte))?;
+    for byte in text.iter().take_while(|byte| **byte != LINE_END) {
+        answers.write_char(char::from(*byte))?;
     }
     Ok(())
 }
@@ -55,20 +52,16 @@ fn show_event(line: &[u8], answers: &mut String) -> fmt::Result {
     match read_event(line) {
         Ok(said) => {
             let time = said.time();
-            write!(answers, "{time},")?;
-            show_happening(said.event(), answers)
+            let happening = Happening(said.event());
+            write!(answers, "{time},{happening}")?;
+            Ok(())
         }
-        Err(fault) => show_fault(fault, answers),
+        Err(fault) => show_refusal(fault.into(), answers),
     }
 }
 
-/// Number, place and layer.
-fn show_fault(fault: TextFault, answers: &mut String) -> fmt::Result {
-    let Refusal {
-        number,
-        place,
-        layer,
-    } = fault.refusal();
-    write!(answers, "E,{number},{place},")?;
-    answers.write_str(layer.name())
+/// A line that is refused.
+fn show_refusal(refusal: Refusal, answers: &mut String) -> fmt::Result {
+    write!(answers, "{refusal}")?;
+    Ok(())
 }

@@ -16,7 +16,8 @@ use Rattle.text.specs.declared.fault.TextFault.TheVariants.{Illegal, Short}
 use Rattle.text.proofs.Decimals.{with_comma}
 use Rattle.text.proofs.Numbers.{numbers_sound}
 use Rattle.text.proofs.Sound.{Sound, sound_good}
-use Rattle.text.proofs.Tables.{Among, words_sound}
+use Rattle.text.proofs.Fields.{word_sound}
+use Rattle.text.proofs.Tables.{Among}
 use Rattle.events.specs.declared.line.EventLine.{EventLine}
 use Rattle.events.specs.Heard.{line_result, result_meant}
 use Rattle.events.specs.Law.{Lawful, ReadsBack}
@@ -30,9 +31,6 @@ use Rattle.events.proofs.Speeds.{speed_last}
 -- every value
 abbrev All : {A : Type 0} → A → Type 0
 All a = Unit {0}
-
-clash : {X : Type 0} → ◌≡◌ {A = ℕ} 0 1 → X
-clash z = absurd (omega arith)
 
 -- Words: each value is in its table.
 
@@ -66,22 +64,22 @@ flag_among true = inl refl
 flag_among false = inr (inl refl)
 
 kind_sound : Sound All kind_text (word_at kind_text kinds)
-kind_sound = sound_good All (λ a g. tt) (λ a g. kind_among a) (words_sound kind_text kinds refl (omega arith))
+kind_sound = word_sound kind_text _ _ refl kind_among
 
 pulse_sound : Sound All pulse_text (word_at pulse_text pulses)
-pulse_sound = sound_good All (λ a g. tt) (λ a g. pulse_among a) (words_sound pulse_text pulses refl (omega arith))
+pulse_sound = word_sound pulse_text _ _ refl pulse_among
 
 lever_sound : Sound All lever_text (word_at lever_text levers)
-lever_sound = sound_good All (λ a g. tt) (λ a g. lever_among a) (words_sound lever_text levers refl (omega arith))
+lever_sound = word_sound lever_text _ _ refl lever_among
 
 button_sound : Sound All button_text (word_at button_text buttons)
-button_sound = sound_good All (λ a g. tt) (λ a g. button_among a) (words_sound button_text buttons refl (omega arith))
+button_sound = word_sound button_text _ _ refl button_among
 
 press_sound : Sound All press_text (word_at press_text flags)
-press_sound = sound_good All (λ a g. tt) (λ a g. flag_among a) (words_sound press_text flags refl (omega arith))
+press_sound = word_sound press_text _ _ refl flag_among
 
 crc_sound : Sound All crc_text (word_at crc_text flags)
-crc_sound = sound_good All (λ a g. tt) (λ a g. flag_among a) (words_sound crc_text flags refl (omega arith))
+crc_sound = word_sound crc_text _ _ refl flag_among
 
 -- What stands behind a kind.
 
@@ -93,55 +91,55 @@ tick_last = last_map (Of kind.Tick) rest_text (λ u. tick) (λ u g. (tt, refl)) 
   where
     from : (w : Happening Written) → Of kind.Tick w → (u : Unit {0}) × (Unit {0}) × (w ≡ tick)
     from tick g = (tt, tt, refl)
-    from (speed v) g = let e = g.1 in clash (cc)
-    from (pulse p) g = let e = g.1 in clash (cc)
-    from (lever l) g = let e = g.1 in clash (cc)
-    from (button b p) g = let e = g.1 in clash (cc)
-    from (telegram c bs) g = let e = g.1 in clash (cc)
+    from (speed v) g = cc
+    from (pulse p) g = cc
+    from (lever l) g = cc
+    from (button b p) g = cc
+    from (telegram c bs) g = cc
 
 speed_rest : Last (Of kind.Speed) rest_text (rest_at kind.Speed)
 speed_rest = last_map (Of kind.Speed) rest_text speed (λ v g. (g, refl)) (λ v g. refl) from speed_last
   where
     from : (w : Happening Written) → Of kind.Speed w → (v : Written) × GoodSpeed v × (w ≡ speed v)
     from (speed v) g = (v, g.0, refl)
-    from tick g = let e = g.1 in clash (cc)
-    from (pulse p) g = let e = g.1 in clash (cc)
-    from (lever l) g = let e = g.1 in clash (cc)
-    from (button b p) g = let e = g.1 in clash (cc)
-    from (telegram c bs) g = let e = g.1 in clash (cc)
+    from tick g = cc
+    from (pulse p) g = cc
+    from (lever l) g = cc
+    from (button b p) g = cc
+    from (telegram c bs) g = cc
 
 pulse_rest : Last (Of kind.Pulse) rest_text (rest_at kind.Pulse)
 pulse_rest = last_map (Of kind.Pulse) rest_text pulse (λ p g. (tt, refl)) (λ p g. refl) from (sound_last pulse_sound)
   where
     from : (w : Happening Written) → Of kind.Pulse w → (p : Pulse) × All p × (w ≡ pulse p)
     from (pulse p) g = (p, tt, refl)
-    from tick g = let e = g.1 in clash (cc)
-    from (speed v) g = let e = g.1 in clash (cc)
-    from (lever l) g = let e = g.1 in clash (cc)
-    from (button b p) g = let e = g.1 in clash (cc)
-    from (telegram c bs) g = let e = g.1 in clash (cc)
+    from tick g = cc
+    from (speed v) g = cc
+    from (lever l) g = cc
+    from (button b p) g = cc
+    from (telegram c bs) g = cc
 
 lever_rest : Last (Of kind.Lever) rest_text (rest_at kind.Lever)
 lever_rest = last_map (Of kind.Lever) rest_text lever (λ l g. (tt, refl)) (λ l g. refl) from (sound_last lever_sound)
   where
     from : (w : Happening Written) → Of kind.Lever w → (l : Lever) × All l × (w ≡ lever l)
     from (lever l) g = (l, tt, refl)
-    from tick g = let e = g.1 in clash (cc)
-    from (speed v) g = let e = g.1 in clash (cc)
-    from (pulse p) g = let e = g.1 in clash (cc)
-    from (button b p) g = let e = g.1 in clash (cc)
-    from (telegram c bs) g = let e = g.1 in clash (cc)
+    from tick g = cc
+    from (speed v) g = cc
+    from (pulse p) g = cc
+    from (button b p) g = cc
+    from (telegram c bs) g = cc
 
 button_rest : Last (Of kind.Button) rest_text (rest_at kind.Button)
 button_rest = last_then All button_text (λ b (p : Bool). Unit {0}) (λ b p. press_text p) (Of kind.Button) rest_text button composed button_sound (λ b g. sound_last press_sound)
   where
     parts : (w : Happening Written) → Of kind.Button w → Made All button_text (λ b (p : Bool). Unit {0}) (λ b p. press_text p) (Of kind.Button) rest_text button w
     parts (button b p) g = record { a = b; b = p; first = tt; second = tt; is = refl }
-    parts tick g = let e = g.1 in clash (cc)
-    parts (speed v) g = let e = g.1 in clash (cc)
-    parts (pulse p) g = let e = g.1 in clash (cc)
-    parts (lever l) g = let e = g.1 in clash (cc)
-    parts (telegram c bs) g = let e = g.1 in clash (cc)
+    parts tick g = cc
+    parts (speed v) g = cc
+    parts (pulse p) g = cc
+    parts (lever l) g = cc
+    parts (telegram c bs) g = cc
 
     composed : Composed All button_text (λ b (p : Bool). Unit {0}) (λ b p. press_text p) (Of kind.Button) rest_text button
     composed = record {
@@ -156,11 +154,11 @@ telegram_rest = last_then All crc_text (λ c bs. Pairs 104 bs) (λ c bs. pairs_t
   where
     parts : (w : Happening Written) → Of kind.Telegram w → Made All crc_text (λ c bs. Pairs 104 bs) (λ c bs. pairs_text bs) (Of kind.Telegram) rest_text telegram w
     parts (telegram c bs) g = record { a = c; b = bs; first = tt; second = g.0; is = refl }
-    parts tick g = let e = g.1 in clash (cc)
-    parts (speed v) g = let e = g.1 in clash (cc)
-    parts (pulse p) g = let e = g.1 in clash (cc)
-    parts (lever l) g = let e = g.1 in clash (cc)
-    parts (button b p) g = let e = g.1 in clash (cc)
+    parts tick g = cc
+    parts (speed v) g = cc
+    parts (pulse p) g = cc
+    parts (lever l) g = cc
+    parts (button b p) g = cc
 
     composed : Composed All crc_text (λ c bs. Pairs 104 bs) (λ c bs. pairs_text bs) (Of kind.Telegram) rest_text telegram
     composed = record {
@@ -237,8 +235,8 @@ lawful line r e = here r (event_read line) (event_tells line) e
   where
     here : (r : Result EventLine TextFault) (x : Result Said ℕ) → Tells Good event_text line x → line_result r ≡ illegal_at (result_meant x) → Lawful line r
     here (Ok l) (Ok s) t e = (s, t.0, t.1, cc)
-    here (Ok l) (Err p) t e = clash (cc)
-    here (Err (Illegal p)) (Ok s) t e = clash (cc)
-    here (Err Short) (Ok s) t e = clash (cc)
+    here (Ok l) (Err p) t e = cc
+    here (Err (Illegal p)) (Ok s) t e = cc
+    here (Err Short) (Ok s) t e = cc
     here (Err (Illegal p)) (Err q) t e = let i : q ≡ p = cc in subst (λ (n : ℕ). Lawful line (Err (Illegal n))) i t
-    here (Err Short) (Err q) t e = clash (cc)
+    here (Err Short) (Err q) t e = cc

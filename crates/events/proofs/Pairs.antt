@@ -8,12 +8,6 @@ use Rattle.events.specs.Said.{Below}
 use Rattle.events.specs.Texts.{hex_digit, pairs_text}
 use Rattle.text.proofs.Last.{Ends, Last}
 
-none_some : {X : Type 0} (x : X) → None ≡ Some x → ⊥
-none_some x e = let z : ◌≡◌ {A = ℕ} 0 1 = cc in omega arith
-
-some_same : {X : Type 0} (x y : X) → Some x ≡ Some y → x ≡ y
-some_same x y e = cc
-
 -- hexadecimal digits
 
 hex_read : (n : ℕ) → n < 16 → hex_value (hex_digit n) ≡ Some n
@@ -48,16 +42,16 @@ hex_write h a e = low (digit h) refl e
         let p = and_parts (leb 65 h) (leb h 70) t in
         let l = leb-true 65 h p.0 in
         let u = leb-true h 70 p.1 in
-        let is = some_same (h - 55) a i in
+        let is : h - 55 ≡ a = cc in
         (omega arith, cond-false (ltb a 10) (48 + a) (55 + a) (le-ltb a 10 (omega arith)) ∙ omega arith)
-    high false t i = absurd (none_some a i)
+    high false t i = cc
 
     low : (b : Bool) → digit h ≡ b → cond b (Some (h - 48)) (cond (leb 65 h && leb h 70) (Some (h - 55)) None) ≡ Some a → (a < 16) × (hex_digit a ≡ h)
     low true t i =
         let p = and_parts (leb 48 h) (leb h 57) t in
         let l = leb-true 48 h p.0 in
         let u = leb-true h 57 p.1 in
-        let is = some_same (h - 48) a i in
+        let is : h - 48 ≡ a = cc in
         (omega arith, cond-true (ltb a 10) (48 + a) (55 + a) (lt-ltb a 10 (omega arith)) ∙ omega arith)
     low false t i = high (leb 65 h && leb h 70) refl i
 
@@ -73,7 +67,7 @@ byte_once b d hb hd e f =
     omega arith
   where
     same : (m n : ℕ) → m < 16 → n < 16 → hex_digit m ≡ hex_digit n → m ≡ n
-    same m n hm hn i = some_same m n (sym (hex_read m hm) ∙ ap hex_value i ∙ hex_read n hn)
+    same m n hm hn i = cc (hex_read m hm, ap hex_value i, hex_read n hn)
 
 pairs_once : (bs ds : List ℕ) → Below 256 bs → Below 256 ds → pairs_text bs ≡ pairs_text ds → bs ≡ ds
 pairs_once [] [] gb gd e = refl
@@ -94,11 +88,11 @@ no_room h more (b ∷ bs) g e = omega (arith, g.0)
 
 no_high : (most h : ℕ) (more bs : List ℕ) → hex_value h ≡ None → Pairs most bs → pairs_text bs ≡ h ∷ more → ⊥
 no_high most h more [] n g e = nil_cons e
-no_high most h more (b ∷ bs) n g e = none_some (b / 16) (sym n ∙ ap hex_value (sym (heads e).0) ∙ hex_read (b / 16) (omega (arith, g.1.0)))
+no_high most h more (b ∷ bs) n g e = cc (ap hex_value (heads e).0, hex_read (b / 16) (omega (arith, g.1.0)))
 
 no_low : (most h l : ℕ) (more bs : List ℕ) → hex_value l ≡ None → Pairs most bs → pairs_text bs ≡ h ∷ (l ∷ more) → ⊥
 no_low most h l more [] n g e = nil_cons e
-no_low most h l more (b ∷ bs) n g e = none_some (b % 16) (sym n ∙ ap hex_value (sym (heads (heads e).1).0) ∙ hex_read (b % 16) (omega arith))
+no_low most h l more (b ∷ bs) n g e = cc (ap hex_value (heads (heads e).1).0, hex_read (b % 16) (omega arith))
 
 no_half : (most h : ℕ) (bs : List ℕ) → Pairs most bs → pairs_text bs ≡ h ∷ [] → ⊥
 no_half most h [] g e = nil_cons e

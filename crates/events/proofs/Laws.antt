@@ -86,85 +86,67 @@ crc_sound = word_sound crc_text _ _ refl flag_among
 abbrev Of : Kind → Happening Written → Type 0
 Of k w = GoodWhat w × (kind_of w ≡ k)
 
+-- what it carries beside its kind
+abbrev Carried : Kind → Type 0
+Carried kind.Tick = Unit {0}
+Carried kind.Speed = Written
+Carried kind.Pulse = Pulse
+Carried kind.Lever = Lever
+Carried kind.Button = Button × Bool
+Carried kind.Telegram = Bool × List ℕ
+
+abbrev carrying : (k : Kind) → Carried k → Happening Written
+carrying kind.Tick u = tick
+carrying kind.Speed v = speed v
+carrying kind.Pulse p = pulse p
+carrying kind.Lever l = lever l
+carrying kind.Button p = button p.0 p.1
+carrying kind.Telegram p = telegram p.0 p.1
+
+carried : (w : Happening Written) → (x : Carried (kind_of w)) × (w ≡ carrying (kind_of w) x)
+carried tick = (tt, refl)
+carried (speed v) = (v, refl)
+carried (pulse p) = (p, refl)
+carried (lever l) = (l, refl)
+carried (button b p) = ((b, p), refl)
+carried (telegram c bs) = ((c, bs), refl)
+
+from_kind : (k : Kind) (w : Happening Written) → Of k w → (x : Carried k) × GoodWhat (carrying k x) × (w ≡ carrying k x)
+from_kind k w g =
+    let c = carried w in
+    subst (λ (j : Kind). (x : Carried j) × GoodWhat (carrying j x) × (w ≡ carrying j x)) g.1 (c.0, subst GoodWhat c.1 g.0, c.1)
+
 tick_last : Last (Of kind.Tick) rest_text (rest_at kind.Tick)
-tick_last = last_map (Of kind.Tick) rest_text (λ u. tick) (λ u g. (tt, refl)) (λ u g. refl) from last_none
-  where
-    from : (w : Happening Written) → Of kind.Tick w → (u : Unit {0}) × (Unit {0}) × (w ≡ tick)
-    from tick g = (tt, tt, refl)
-    from (speed v) g = cc
-    from (pulse p) g = cc
-    from (lever l) g = cc
-    from (button b p) g = cc
-    from (telegram c bs) g = cc
+tick_last = last_map (Of kind.Tick) rest_text (λ u. tick) (λ u g. (tt, refl)) (λ u g. refl) (from_kind kind.Tick) last_none
 
 speed_rest : Last (Of kind.Speed) rest_text (rest_at kind.Speed)
-speed_rest = last_map (Of kind.Speed) rest_text speed (λ v g. (g, refl)) (λ v g. refl) from speed_last
-  where
-    from : (w : Happening Written) → Of kind.Speed w → (v : Written) × GoodSpeed v × (w ≡ speed v)
-    from (speed v) g = (v, g.0, refl)
-    from tick g = cc
-    from (pulse p) g = cc
-    from (lever l) g = cc
-    from (button b p) g = cc
-    from (telegram c bs) g = cc
+speed_rest = last_map (Of kind.Speed) rest_text speed (λ v g. (g, refl)) (λ v g. refl) (from_kind kind.Speed) speed_last
 
 pulse_rest : Last (Of kind.Pulse) rest_text (rest_at kind.Pulse)
-pulse_rest = last_map (Of kind.Pulse) rest_text pulse (λ p g. (tt, refl)) (λ p g. refl) from (sound_last pulse_sound)
-  where
-    from : (w : Happening Written) → Of kind.Pulse w → (p : Pulse) × All p × (w ≡ pulse p)
-    from (pulse p) g = (p, tt, refl)
-    from tick g = cc
-    from (speed v) g = cc
-    from (lever l) g = cc
-    from (button b p) g = cc
-    from (telegram c bs) g = cc
+pulse_rest = last_map (Of kind.Pulse) rest_text pulse (λ p g. (tt, refl)) (λ p g. refl) (from_kind kind.Pulse) (sound_last pulse_sound)
 
 lever_rest : Last (Of kind.Lever) rest_text (rest_at kind.Lever)
-lever_rest = last_map (Of kind.Lever) rest_text lever (λ l g. (tt, refl)) (λ l g. refl) from (sound_last lever_sound)
-  where
-    from : (w : Happening Written) → Of kind.Lever w → (l : Lever) × All l × (w ≡ lever l)
-    from (lever l) g = (l, tt, refl)
-    from tick g = cc
-    from (speed v) g = cc
-    from (pulse p) g = cc
-    from (button b p) g = cc
-    from (telegram c bs) g = cc
+lever_rest = last_map (Of kind.Lever) rest_text lever (λ l g. (tt, refl)) (λ l g. refl) (from_kind kind.Lever) (sound_last lever_sound)
 
 button_rest : Last (Of kind.Button) rest_text (rest_at kind.Button)
 button_rest = last_then All button_text (λ b (p : Bool). Unit {0}) (λ b p. press_text p) (Of kind.Button) rest_text button composed button_sound (λ b g. sound_last press_sound)
   where
-    parts : (w : Happening Written) → Of kind.Button w → Made All button_text (λ b (p : Bool). Unit {0}) (λ b p. press_text p) (Of kind.Button) rest_text button w
-    parts (button b p) g = record { a = b; b = p; first = tt; second = tt; is = refl }
-    parts tick g = cc
-    parts (speed v) g = cc
-    parts (pulse p) g = cc
-    parts (lever l) g = cc
-    parts (telegram c bs) g = cc
-
     composed : Composed All button_text (λ b (p : Bool). Unit {0}) (λ b p. press_text p) (Of kind.Button) rest_text button
     composed = record {
       good = λ b p g h. (tt, refl);
       wrote = λ b p g h. refl;
-      parts = parts;
+      parts = λ w g. let x = from_kind kind.Button w g in record { a = x.0.0; b = x.0.1; first = tt; second = tt; is = x.2 };
       fill = λ b g. (true, tt);
     }
 
 telegram_rest : Last (Of kind.Telegram) rest_text (rest_at kind.Telegram)
 telegram_rest = last_then All crc_text (λ c bs. Pairs 104 bs) (λ c bs. pairs_text bs) (Of kind.Telegram) rest_text telegram composed crc_sound (λ c g. pairs_last)
   where
-    parts : (w : Happening Written) → Of kind.Telegram w → Made All crc_text (λ c bs. Pairs 104 bs) (λ c bs. pairs_text bs) (Of kind.Telegram) rest_text telegram w
-    parts (telegram c bs) g = record { a = c; b = bs; first = tt; second = g.0; is = refl }
-    parts tick g = cc
-    parts (speed v) g = cc
-    parts (pulse p) g = cc
-    parts (lever l) g = cc
-    parts (button b p) g = cc
-
     composed : Composed All crc_text (λ c bs. Pairs 104 bs) (λ c bs. pairs_text bs) (Of kind.Telegram) rest_text telegram
     composed = record {
       good = λ c bs g h. (h, refl);
       wrote = λ c bs g h. refl;
-      parts = parts;
+      parts = λ w g. let x = from_kind kind.Telegram w g in record { a = x.0.0; b = x.0.1; first = tt; second = x.1; is = x.2 };
       fill = λ c g. ([], (omega arith, tt));
     }
 

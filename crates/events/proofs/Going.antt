@@ -7,7 +7,7 @@ use Rattle.text.specs.Parts.{Reading, and_then, byte_in, byte_at, digit, hex_val
 use Rattle.events.specs.Heard.{number, speed_of}
 use Rattle.events.specs.Reads.{digits_in, speed_from, speed_at, in_front, pair_then, pairs_from, pairs_at}
 use Rattle.events.specs.Said.{Written, lost, digits}
-use Rattle.events.specs.Steps.{meaning, digit_by, digit_at, behind}
+use Rattle.events.specs.Steps.{meaning, digit_by, digit_at}
 use Rattle.text.proofs.Loops.{at_get}
 
 -- a speed
@@ -102,6 +102,11 @@ module _ (most : ℕ) (line : List ℕ) (at : ℕ) where
       ap (λ (xs : List ℕ). pairs_from (suc most) xs at) (drop_more line at 0 l)
       ∙ first (get_or line at 0)
       ∙ ap (λ (o : Option ℕ). and_then (and_then (hex_of o at) (λ high n. and_then (hex_digit_at line n) (λ low m. Ok (16 * high + low, m)))) others) (sym (slice_get-get_or line at 0 l))
+
+-- what is read, behind these bytes
+abbrev pub behind : List ℕ → Reading (List ℕ) → Reading (List ℕ)
+behind bytes (Ok p) = Ok (bytes ++ p.0, p.1)
+behind bytes (Err place) = Err place
 
 -- what is left of the line, behind the bytes that were read
 abbrev pub left : List ℕ → List ℕ → ℕ → Reading (List ℕ)

@@ -10,21 +10,21 @@ use Rattle.cab.specs.declared.event.Pulse.{Pulse}
 use Rattle.cab.specs.declared.event.Pulse.TheVariants.{Restrictive, Clear}
 use Rattle.text.specs.Faults.{illegal_at}
 use Rattle.text.specs.Legal.{Tells}
-use Rattle.text.specs.Parts.{Reading, and_then, word_at, number_at}
+use Rattle.text.specs.Parts.{Reading, and_then, word_at}
 use Rattle.text.specs.declared.fault.TextFault.{TextFault}
 use Rattle.text.specs.declared.fault.TextFault.TheVariants.{Illegal, Short}
 use Rattle.text.proofs.Decimals.{with_comma}
 use Rattle.text.proofs.Numbers.{numbers_sound}
-use Rattle.text.proofs.Sound.{Sound, sound_good}
+use Rattle.text.proofs.Sound.{Sound}
 use Rattle.text.proofs.Fields.{word_sound}
 use Rattle.text.proofs.Tables.{Among}
 use Rattle.events.specs.declared.line.EventLine.{EventLine}
 use Rattle.events.specs.Heard.{line_result, result_meant}
 use Rattle.events.specs.Law.{Lawful, ReadsBack}
 use Rattle.events.specs.Reads.{kinds, pulses, levers, buttons, flags, rest_at, what_at, said, event_at, event_read}
-use Rattle.events.specs.Said.{Happening, tick, speed, pulse, lever, button, telegram, Written, lost, Said, GoodSpeed, GoodWhat, Good}
+use Rattle.events.specs.Said.{Happening, tick, speed, pulse, lever, button, telegram, Written, lost, Said, GoodWhat, Good}
 use Rattle.events.specs.Texts.{kind_text, kind_of, pulse_text, lever_text, button_text, press_text, crc_text, pairs_text, rest_text, event_text}
-use Rattle.text.proofs.Last.{Last, last_read, last_map, last_then, last_none, sound_last, last_tells, last_reads_back, Composed, Made}
+use Rattle.text.proofs.Last.{Last, last_read, last_map, last_then, last_none, sound_last, last_tells, last_reads_back, Composed}
 use Rattle.events.proofs.Pairs.{Pairs, pairs_last}
 use Rattle.events.proofs.Speeds.{speed_last}
 

@@ -1,4 +1,4 @@
-use Rattle.std.proofs.Common.{rules, arith, ap, length, length-append, ℕ}
+use Rattle.std.proofs.Common.{rules, arith}
 use Rattle.std.proofs.lemmas.Grind.{common_steps}
 use Rattle.events.proofs.Going.{left_pair}
 use Rattle.events.proofs.tails.pairs.Goals as goal

@@ -7,7 +7,7 @@ use Rattle.text.specs.Parts.{Reading, and_then, byte_in, byte_at, digit, hex_val
 use Rattle.events.specs.Heard.{number, speed_of}
 use Rattle.events.specs.Reads.{digits_in, speed_from, speed_at, in_front, pair_then, pairs_from, pairs_at}
 use Rattle.events.specs.Said.{Written, lost, digits}
-use Rattle.events.specs.Steps.{meaning, digit_by, digit_at, behind}
+use Rattle.events.specs.Steps.{meaning, digit_by, digit_at}
 use Rattle.text.proofs.Loops.{at_get}
 
 -- a speed
@@ -56,28 +56,15 @@ module _ (line : List ℕ) where
   abbrev read_as : Reading Written → Reading (Option ℕ)
   read_as r = and_then r (λ v n. Ok (speed_of v, n))
 
-  -- no L stands here: the speed is a number
-  pub speed_is_number : (at : ℕ) (o : Option ℕ) → o ≡ slice_get line at → false ≡ option_eq eqb o (Some 76) → meaning speed_of speed_at line at ≡ and_then (digit_at line at) (λ d n. begun d line n)
+  -- an L, and the speed is lost; or a number
+  pub speed_is : (at : ℕ) → meaning speed_of speed_at line at ≡ cond (option_eq eqb (slice_get line at) (Some 76)) (and_then (byte_at line at) (λ c n. Ok (None, n))) (and_then (digit_at line at) (λ d n. begun d line n))
   unfolding speed_at
-  speed_is_number at o is other = at_get (λ p xs. false ≡ option_eq eqb p (Some 76) → read_as (speed_from xs at) ≡ and_then (digit_by p at) (λ d n. begun d line n)) line at (λ c l other. some c (sym other)) (λ e. refl) (other ∙ ap (λ (p : Option ℕ). option_eq eqb p (Some 76)) is)
+  speed_is at = at_get (λ o xs. read_as (speed_from xs at) ≡ cond (option_eq eqb o (Some 76)) (and_then (byte_in o at) (λ c n. Ok (None, n))) (and_then (digit_by o at) (λ d n. begun d line n))) line at (λ c l. some c (eqb c 76) (digit c)) refl
     where
-      some : (c : ℕ) → eqb c 76 ≡ false → read_as (cond (eqb c 76) (Ok (lost, at + 1)) (digits_here at c (digit c))) ≡ and_then (cond (digit c) (Ok (Some (c - 48), at + 1)) (Ok (None, at))) (λ d n. begun d line n)
-      some c other = ap (λ (k : Bool). read_as (cond k (Ok (lost, at + 1)) (digits_here at c (digit c)))) other ∙ here (digit c)
-        where
-          here : (b : Bool) → read_as (digits_here at c b) ≡ and_then (cond b (Ok (Some (c - 48), at + 1)) (Ok (None, at))) (λ d n. begun d line n)
-          here false = refl
-          here true = ap (λ (v : ℕ). made v (digits_in 2 (drop (at + 1) line)) (at + 1)) (zero-add (c - 48)) ∙ up_to_is 2 (c - 48) (at + 1)
-
-  -- an L stands here: the speed is lost
-  pub speed_is_lost : (at x n : ℕ) (o : Option ℕ) → o ≡ slice_get line at → true ≡ option_eq eqb o (Some 76) → byte_at line at ≡ Ok (x, n) → meaning speed_of speed_at line at ≡ Ok (None, n)
-  unfolding speed_at
-  speed_is_lost at x n o is here = at_get (λ p xs. true ≡ option_eq eqb p (Some 76) → byte_in p at ≡ Ok (x, n) → read_as (speed_from xs at) ≡ Ok (None, n)) line at some (λ e f. cc) (here ∙ ap (λ (p : Option ℕ). option_eq eqb p (Some 76)) is)
-    where
-      same : (p q : ℕ × ℕ) → ◌≡◌ {A = Reading ℕ} (Ok p) (Ok q) → p ≡ q
-      same p q e = cc
-
-      some : (c : ℕ) → at < length line → true ≡ eqb c 76 → ◌≡◌ {A = Reading ℕ} (Ok (c, at + 1)) (Ok (x, n)) → read_as (cond (eqb c 76) (Ok (lost, at + 1)) (digits_here at c (digit c))) ≡ Ok (None, n)
-      some c l e f = ap (λ (k : Bool). read_as (cond k (Ok (lost, at + 1)) (digits_here at c (digit c)))) (sym e) ∙ ap (λ (p : ℕ × ℕ). Ok (None, p.1)) (same (c, at + 1) (x, n) f)
+      some : (c : ℕ) (b k : Bool) → read_as (cond b (Ok (lost, at + 1)) (digits_here at c k)) ≡ cond b (Ok (None, at + 1)) (and_then (cond k (Ok (Some (c - 48), at + 1)) (Ok (None, at))) (λ d n. begun d line n))
+      some c true k = refl
+      some c false false = refl
+      some c false true = ap (λ (v : ℕ). made v (digits_in 2 (drop (at + 1) line)) (at + 1)) (zero-add (c - 48)) ∙ up_to_is 2 (c - 48) (at + 1)
 
 -- pairs
 
@@ -115,6 +102,11 @@ module _ (most : ℕ) (line : List ℕ) (at : ℕ) where
       ap (λ (xs : List ℕ). pairs_from (suc most) xs at) (drop_more line at 0 l)
       ∙ first (get_or line at 0)
       ∙ ap (λ (o : Option ℕ). and_then (and_then (hex_of o at) (λ high n. and_then (hex_digit_at line n) (λ low m. Ok (16 * high + low, m)))) others) (sym (slice_get-get_or line at 0 l))
+
+-- what is read, behind these bytes
+abbrev pub behind : List ℕ → Reading (List ℕ) → Reading (List ℕ)
+behind bytes (Ok p) = Ok (bytes ++ p.0, p.1)
+behind bytes (Err place) = Err place
 
 -- what is left of the line, behind the bytes that were read
 abbrev pub left : List ℕ → List ℕ → ℕ → Reading (List ℕ)
@@ -158,3 +150,5 @@ module _ (bytes line : List ℕ) (at : ℕ) where
       none : (most : ℕ) → pairs_from most [] at ≡ Ok ([], at)
       none zero = refl
       none (suc most) = refl
+
+pub ruleset pair_steps = (left_starts, left_full, left_stops, left_pair, left_ends)

@@ -10,29 +10,27 @@ use Rattle.cab.specs.declared.event.Pulse.{Pulse}
 use Rattle.cab.specs.declared.event.Pulse.TheVariants.{Restrictive, Clear}
 use Rattle.text.specs.Faults.{illegal_at}
 use Rattle.text.specs.Legal.{Tells}
-use Rattle.text.specs.Parts.{Reading, and_then, word_at, number_at}
+use Rattle.text.specs.Parts.{Reading, and_then, word_at}
 use Rattle.text.specs.declared.fault.TextFault.{TextFault}
 use Rattle.text.specs.declared.fault.TextFault.TheVariants.{Illegal, Short}
 use Rattle.text.proofs.Decimals.{with_comma}
 use Rattle.text.proofs.Numbers.{numbers_sound}
-use Rattle.text.proofs.Sound.{Sound, sound_good}
-use Rattle.text.proofs.Tables.{Among, words_sound}
+use Rattle.text.proofs.Sound.{Sound}
+use Rattle.text.proofs.Fields.{word_sound}
+use Rattle.text.proofs.Tables.{Among}
 use Rattle.events.specs.declared.line.EventLine.{EventLine}
 use Rattle.events.specs.Heard.{line_result, result_meant}
 use Rattle.events.specs.Law.{Lawful, ReadsBack}
 use Rattle.events.specs.Reads.{kinds, pulses, levers, buttons, flags, rest_at, what_at, said, event_at, event_read}
-use Rattle.events.specs.Said.{Happening, tick, speed, pulse, lever, button, telegram, Written, lost, Said, GoodSpeed, GoodWhat, Good}
+use Rattle.events.specs.Said.{Happening, tick, speed, pulse, lever, button, telegram, Written, lost, Said, GoodWhat, Good}
 use Rattle.events.specs.Texts.{kind_text, kind_of, pulse_text, lever_text, button_text, press_text, crc_text, pairs_text, rest_text, event_text}
-use Rattle.text.proofs.Last.{Last, last_read, last_map, last_then, last_none, sound_last, last_tells, last_reads_back, Composed, Made}
+use Rattle.text.proofs.Last.{Last, last_read, last_map, last_then, last_none, sound_last, last_tells, last_reads_back, Composed}
 use Rattle.events.proofs.Pairs.{Pairs, pairs_last}
 use Rattle.events.proofs.Speeds.{speed_last}
 
 -- every value
 abbrev All : {A : Type 0} → A → Type 0
 All a = Unit {0}
-
-clash : {X : Type 0} → ◌≡◌ {A = ℕ} 0 1 → X
-clash z = absurd (omega arith)
 
 -- Words: each value is in its table.
 
@@ -66,107 +64,89 @@ flag_among true = inl refl
 flag_among false = inr (inl refl)
 
 kind_sound : Sound All kind_text (word_at kind_text kinds)
-kind_sound = sound_good All (λ a g. tt) (λ a g. kind_among a) (words_sound kind_text kinds refl (omega arith))
+kind_sound = word_sound kind_text _ _ refl kind_among
 
 pulse_sound : Sound All pulse_text (word_at pulse_text pulses)
-pulse_sound = sound_good All (λ a g. tt) (λ a g. pulse_among a) (words_sound pulse_text pulses refl (omega arith))
+pulse_sound = word_sound pulse_text _ _ refl pulse_among
 
 lever_sound : Sound All lever_text (word_at lever_text levers)
-lever_sound = sound_good All (λ a g. tt) (λ a g. lever_among a) (words_sound lever_text levers refl (omega arith))
+lever_sound = word_sound lever_text _ _ refl lever_among
 
 button_sound : Sound All button_text (word_at button_text buttons)
-button_sound = sound_good All (λ a g. tt) (λ a g. button_among a) (words_sound button_text buttons refl (omega arith))
+button_sound = word_sound button_text _ _ refl button_among
 
 press_sound : Sound All press_text (word_at press_text flags)
-press_sound = sound_good All (λ a g. tt) (λ a g. flag_among a) (words_sound press_text flags refl (omega arith))
+press_sound = word_sound press_text _ _ refl flag_among
 
 crc_sound : Sound All crc_text (word_at crc_text flags)
-crc_sound = sound_good All (λ a g. tt) (λ a g. flag_among a) (words_sound crc_text flags refl (omega arith))
+crc_sound = word_sound crc_text _ _ refl flag_among
 
 -- What stands behind a kind.
 
 abbrev Of : Kind → Happening Written → Type 0
 Of k w = GoodWhat w × (kind_of w ≡ k)
 
+-- what it carries beside its kind
+abbrev Carried : Kind → Type 0
+Carried kind.Tick = Unit {0}
+Carried kind.Speed = Written
+Carried kind.Pulse = Pulse
+Carried kind.Lever = Lever
+Carried kind.Button = Button × Bool
+Carried kind.Telegram = Bool × List ℕ
+
+abbrev carrying : (k : Kind) → Carried k → Happening Written
+carrying kind.Tick u = tick
+carrying kind.Speed v = speed v
+carrying kind.Pulse p = pulse p
+carrying kind.Lever l = lever l
+carrying kind.Button p = button p.0 p.1
+carrying kind.Telegram p = telegram p.0 p.1
+
+carried : (w : Happening Written) → (x : Carried (kind_of w)) × (w ≡ carrying (kind_of w) x)
+carried tick = (tt, refl)
+carried (speed v) = (v, refl)
+carried (pulse p) = (p, refl)
+carried (lever l) = (l, refl)
+carried (button b p) = ((b, p), refl)
+carried (telegram c bs) = ((c, bs), refl)
+
+from_kind : (k : Kind) (w : Happening Written) → Of k w → (x : Carried k) × GoodWhat (carrying k x) × (w ≡ carrying k x)
+from_kind k w g =
+    let c = carried w in
+    subst (λ (j : Kind). (x : Carried j) × GoodWhat (carrying j x) × (w ≡ carrying j x)) g.1 (c.0, subst GoodWhat c.1 g.0, c.1)
+
 tick_last : Last (Of kind.Tick) rest_text (rest_at kind.Tick)
-tick_last = last_map (Of kind.Tick) rest_text (λ u. tick) (λ u g. (tt, refl)) (λ u g. refl) from last_none
-  where
-    from : (w : Happening Written) → Of kind.Tick w → (u : Unit {0}) × (Unit {0}) × (w ≡ tick)
-    from tick g = (tt, tt, refl)
-    from (speed v) g = let e = g.1 in clash (cc)
-    from (pulse p) g = let e = g.1 in clash (cc)
-    from (lever l) g = let e = g.1 in clash (cc)
-    from (button b p) g = let e = g.1 in clash (cc)
-    from (telegram c bs) g = let e = g.1 in clash (cc)
+tick_last = last_map (Of kind.Tick) rest_text (λ u. tick) (λ u g. (tt, refl)) (λ u g. refl) (from_kind kind.Tick) last_none
 
 speed_rest : Last (Of kind.Speed) rest_text (rest_at kind.Speed)
-speed_rest = last_map (Of kind.Speed) rest_text speed (λ v g. (g, refl)) (λ v g. refl) from speed_last
-  where
-    from : (w : Happening Written) → Of kind.Speed w → (v : Written) × GoodSpeed v × (w ≡ speed v)
-    from (speed v) g = (v, g.0, refl)
-    from tick g = let e = g.1 in clash (cc)
-    from (pulse p) g = let e = g.1 in clash (cc)
-    from (lever l) g = let e = g.1 in clash (cc)
-    from (button b p) g = let e = g.1 in clash (cc)
-    from (telegram c bs) g = let e = g.1 in clash (cc)
+speed_rest = last_map (Of kind.Speed) rest_text speed (λ v g. (g, refl)) (λ v g. refl) (from_kind kind.Speed) speed_last
 
 pulse_rest : Last (Of kind.Pulse) rest_text (rest_at kind.Pulse)
-pulse_rest = last_map (Of kind.Pulse) rest_text pulse (λ p g. (tt, refl)) (λ p g. refl) from (sound_last pulse_sound)
-  where
-    from : (w : Happening Written) → Of kind.Pulse w → (p : Pulse) × All p × (w ≡ pulse p)
-    from (pulse p) g = (p, tt, refl)
-    from tick g = let e = g.1 in clash (cc)
-    from (speed v) g = let e = g.1 in clash (cc)
-    from (lever l) g = let e = g.1 in clash (cc)
-    from (button b p) g = let e = g.1 in clash (cc)
-    from (telegram c bs) g = let e = g.1 in clash (cc)
+pulse_rest = last_map (Of kind.Pulse) rest_text pulse (λ p g. (tt, refl)) (λ p g. refl) (from_kind kind.Pulse) (sound_last pulse_sound)
 
 lever_rest : Last (Of kind.Lever) rest_text (rest_at kind.Lever)
-lever_rest = last_map (Of kind.Lever) rest_text lever (λ l g. (tt, refl)) (λ l g. refl) from (sound_last lever_sound)
-  where
-    from : (w : Happening Written) → Of kind.Lever w → (l : Lever) × All l × (w ≡ lever l)
-    from (lever l) g = (l, tt, refl)
-    from tick g = let e = g.1 in clash (cc)
-    from (speed v) g = let e = g.1 in clash (cc)
-    from (pulse p) g = let e = g.1 in clash (cc)
-    from (button b p) g = let e = g.1 in clash (cc)
-    from (telegram c bs) g = let e = g.1 in clash (cc)
+lever_rest = last_map (Of kind.Lever) rest_text lever (λ l g. (tt, refl)) (λ l g. refl) (from_kind kind.Lever) (sound_last lever_sound)
 
 button_rest : Last (Of kind.Button) rest_text (rest_at kind.Button)
 button_rest = last_then All button_text (λ b (p : Bool). Unit {0}) (λ b p. press_text p) (Of kind.Button) rest_text button composed button_sound (λ b g. sound_last press_sound)
   where
-    parts : (w : Happening Written) → Of kind.Button w → Made All button_text (λ b (p : Bool). Unit {0}) (λ b p. press_text p) (Of kind.Button) rest_text button w
-    parts (button b p) g = record { a = b; b = p; first = tt; second = tt; is = refl }
-    parts tick g = let e = g.1 in clash (cc)
-    parts (speed v) g = let e = g.1 in clash (cc)
-    parts (pulse p) g = let e = g.1 in clash (cc)
-    parts (lever l) g = let e = g.1 in clash (cc)
-    parts (telegram c bs) g = let e = g.1 in clash (cc)
-
     composed : Composed All button_text (λ b (p : Bool). Unit {0}) (λ b p. press_text p) (Of kind.Button) rest_text button
     composed = record {
       good = λ b p g h. (tt, refl);
       wrote = λ b p g h. refl;
-      parts = parts;
+      parts = λ w g. let x = from_kind kind.Button w g in record { a = x.0.0; b = x.0.1; first = tt; second = tt; is = x.2 };
       fill = λ b g. (true, tt);
     }
 
 telegram_rest : Last (Of kind.Telegram) rest_text (rest_at kind.Telegram)
 telegram_rest = last_then All crc_text (λ c bs. Pairs 104 bs) (λ c bs. pairs_text bs) (Of kind.Telegram) rest_text telegram composed crc_sound (λ c g. pairs_last)
   where
-    parts : (w : Happening Written) → Of kind.Telegram w → Made All crc_text (λ c bs. Pairs 104 bs) (λ c bs. pairs_text bs) (Of kind.Telegram) rest_text telegram w
-    parts (telegram c bs) g = record { a = c; b = bs; first = tt; second = g.0; is = refl }
-    parts tick g = let e = g.1 in clash (cc)
-    parts (speed v) g = let e = g.1 in clash (cc)
-    parts (pulse p) g = let e = g.1 in clash (cc)
-    parts (lever l) g = let e = g.1 in clash (cc)
-    parts (button b p) g = let e = g.1 in clash (cc)
-
     composed : Composed All crc_text (λ c bs. Pairs 104 bs) (λ c bs. pairs_text bs) (Of kind.Telegram) rest_text telegram
     composed = record {
       good = λ c bs g h. (h, refl);
       wrote = λ c bs g h. refl;
-      parts = parts;
+      parts = λ w g. let x = from_kind kind.Telegram w g in record { a = x.0.0; b = x.0.1; first = tt; second = x.1; is = x.2 };
       fill = λ c g. ([], (omega arith, tt));
     }
 
@@ -237,8 +217,8 @@ lawful line r e = here r (event_read line) (event_tells line) e
   where
     here : (r : Result EventLine TextFault) (x : Result Said ℕ) → Tells Good event_text line x → line_result r ≡ illegal_at (result_meant x) → Lawful line r
     here (Ok l) (Ok s) t e = (s, t.0, t.1, cc)
-    here (Ok l) (Err p) t e = clash (cc)
-    here (Err (Illegal p)) (Ok s) t e = clash (cc)
-    here (Err Short) (Ok s) t e = clash (cc)
+    here (Ok l) (Err p) t e = cc
+    here (Err (Illegal p)) (Ok s) t e = cc
+    here (Err Short) (Ok s) t e = cc
     here (Err (Illegal p)) (Err q) t e = let i : q ≡ p = cc in subst (λ (n : ℕ). Lawful line (Err (Illegal n))) i t
-    here (Err Short) (Err q) t e = clash (cc)
+    here (Err Short) (Err q) t e = cc

@@ -1,14 +1,14 @@
 -- The speed is read as it is written.
 use Rattle.std.proofs.Common.{◌≡◌, ℕ, zero, suc, ◌+◌, ◌-◌, ◌<◌, ◌≤◌, Bool, true, false, cond, eqb, List, [], ◌∷◌, ◌++◌, map, length, take, drop, Ok, Err, sym, refl, ap, ◌∙◌, subst, append_assoc, append-nil, add-zero, arith, length-append, length-drop}
 use Rattle.std.proofs.lemmas.List.{take_at}
-use Rattle.std.proofs.lemmas.Bool.{eqb-true, eqb-false, eq-eqb, ne_eqb, both_ways, cond-true}
+use Rattle.std.proofs.lemmas.Bool.{eqb-true, eqb-false, both_ways}
 use Rattle.text.specs.Parts.{ended, digit}
 use Rattle.text.proofs.Decimals.{digit_is, digit_range}
-use Rattle.text.proofs.Fronts.{heads, nil_cons, take_past}
+use Rattle.text.proofs.Fronts.{heads, take_past}
+use Rattle.text.proofs.Last.{Ends, Last, ended_whole, ended_early}
 use Rattle.events.specs.Reads.{digits_in, speed_from, speed_at}
 use Rattle.events.specs.Said.{Below, Written, lost, digits, GoodSpeed}
 use Rattle.events.specs.Texts.{speed_text}
-use Rattle.text.proofs.Last.{Ends, Last}
 
 abbrev digits_text : List ℕ → List ℕ
 digits_text ds = map (λ d. 48 + d) ds
@@ -19,77 +19,61 @@ digits_length (d ∷ ds) = ap suc (digits_length ds)
 
 digits_once : (ds es : List ℕ) → digits_text ds ≡ digits_text es → ds ≡ es
 digits_once [] [] e = refl
-digits_once [] (f ∷ es) e = absurd (nil_cons e)
-digits_once (d ∷ ds) [] e = absurd (nil_cons (sym e))
+digits_once [] (f ∷ es) e = cc
+digits_once (d ∷ ds) [] e = cc
 digits_once (d ∷ ds) (f ∷ es) e =
-    let p = heads e in
-    let a : d ≡ f = omega (arith, p.0) in
-    let b = digits_once ds es p.1 in
+    let a : d ≡ f = omega (arith, (heads e).0) in
+    let b = digits_once ds es (cc) in
     cc
 
--- the digits in front of a text, and what is behind them
-pub record Run (most : ℕ) (text : List ℕ) : Type 0 where
+-- these digits, at most so many, stand in front of a text, and no digit goes on them
+pub record Run (most : ℕ) (text ds : List ℕ) : Type 0 where
   pub rest : List ℕ
-  pub split : text ≡ digits_text (digits_in most text) ++ rest
-  pub few : length (digits_in most text) ≤ most
-  pub below : Below 10 (digits_in most text)
-  pub stops : (x : ℕ) (xs : List ℕ) → rest ≡ x ∷ xs → length (digits_in most text) < most → digit x ≡ false
+  pub split : text ≡ digits_text ds ++ rest
+  pub few : length ds ≤ most
+  pub below : Below 10 ds
+  pub stops : (x : ℕ) (xs : List ℕ) → rest ≡ x ∷ xs → length ds < most → digit x ≡ false
 
-run : (most : ℕ) (text : List ℕ) → Run most text
+run : (most : ℕ) (text : List ℕ) → Run most text (digits_in most text)
 run zero text = record { rest = text; split = refl; few = omega arith; below = tt; stops = λ x xs e h. absurd (omega arith) }
-run (suc most) [] = record { rest = []; split = refl; few = omega arith; below = tt; stops = λ x xs e h. absurd (nil_cons e) }
+run (suc most) [] = record { rest = []; split = refl; few = omega arith; below = tt; stops = λ x xs e h. cc }
 run (suc most) (c ∷ cs) = here (digit c) refl (run most cs)
   where
-    back : (48 ≤ c) → c ≡ 48 + (c - 48)
-    back h = omega arith
-
-    yes : digit c ≡ true → digits_in (suc most) (c ∷ cs) ≡ (c - 48) ∷ digits_in most cs
-    yes e = cond-true (digit c) ((c - 48) ∷ digits_in most cs) [] e
-
-    no : digit c ≡ false → digits_in (suc most) (c ∷ cs) ≡ []
-    no e = ap (λ (b : Bool). cond b ((c - 48) ∷ digits_in most cs) []) e
-
-    here : (b : Bool) → digit c ≡ b → Run most cs → Run (suc most) (c ∷ cs)
+    here : (b : Bool) → digit c ≡ b → Run most cs (digits_in most cs) → Run (suc most) (c ∷ cs) (cond b ((c - 48) ∷ digits_in most cs) [])
     here true e r =
         let h = digit_range c e in
-        let is = yes e in
+        let back : c ≡ 48 + (c - 48) = omega (arith, h.0) in
         record {
           rest = r.rest;
-          split = ap (λ (x : ℕ). x ∷ cs) (back h.0) ∙ ap (λ (l : List ℕ). (48 + (c - 48)) ∷ l) r.split ∙ ap (λ (l : List ℕ). digits_text l ++ r.rest) (sym is);
-          few = omega (arith, ap length is, r.few);
-          below = subst (Below 10) (sym is) (omega (arith, h.0, h.1), r.below);
-          stops = λ x xs i l. r.stops x xs i (omega (arith, ap length is, l));
+          split = cc (back, r.split);
+          few = omega (arith, r.few);
+          below = (omega (arith, h.0, h.1), r.below);
+          stops = λ x xs i l. r.stops x xs i (omega (arith, l));
         }
-    here false e r = record {
-      rest = c ∷ cs;
-      split = ap (λ (l : List ℕ). digits_text l ++ (c ∷ cs)) (sym (no e));
-      few = omega (arith, ap length (no e));
-      below = subst (Below 10) (sym (no e)) tt;
-      stops = λ x xs i l. ap digit (sym (heads i).0) ∙ e;
-    }
+    here false e r = record { rest = c ∷ cs; split = refl; few = omega arith; below = tt; stops = λ x xs i l. cc (ap digit (heads i).0) }
 
 -- digits behind digits
 longer : (ds es : List ℕ) (x : ℕ) (more : List ℕ) → Below 10 es → digits_text es ≡ digits_text ds ++ (x ∷ more) → (digit x ≡ true) × (length ds < length es)
-longer [] [] x more h e = absurd (nil_cons e)
+longer [] [] x more h e = cc
 longer [] (f ∷ es) x more h e = (ap digit (sym (heads e).0) ∙ digit_is f h.0, omega arith)
-longer (d ∷ ds) [] x more h e = absurd (nil_cons e)
-longer (d ∷ ds) (f ∷ es) x more h e = let p = longer ds es x more h.1 (heads e).1 in (p.0, omega (arith, p.1))
+longer (d ∷ ds) [] x more h e = cc
+longer (d ∷ ds) (f ∷ es) x more h e = let p = longer ds es x more h.1 (cc) in (p.0, omega (arith, p.1))
 
 -- what no speed begins with
 
 no_empty : (v : Written) → GoodSpeed v → [] ≡ speed_text v → ⊥
-no_empty lost g e = nil_cons e
+no_empty lost g e = cc
 no_empty (digits []) g e = omega arith
-no_empty (digits (d ∷ ds)) g e = nil_cons e
+no_empty (digits (d ∷ ds)) g e = cc
 
 no_other : (c : ℕ) (more : List ℕ) → (c ≡ 76 → ⊥) → digit c ≡ false → (v : Written) → GoodSpeed v → speed_text v ≡ c ∷ more → ⊥
-no_other c more n f lost g e = n (sym (heads e).0)
-no_other c more n f (digits []) g e = nil_cons e
-no_other c more n f (digits (d ∷ ds)) g e = both_ways (digit c) f (ap digit (sym (heads e).0) ∙ digit_is d g.2.0)
+no_other c more n f lost g e = n (cc)
+no_other c more n f (digits []) g e = cc
+no_other c more n f (digits (d ∷ ds)) g e = cc (ap digit (heads e).0, digit_is d g.2.0)
 
 no_lost : (x : ℕ) (more : List ℕ) (v : Written) → GoodSpeed v → speed_text v ≡ 76 ∷ (x ∷ more) → ⊥
-no_lost x more lost g e = nil_cons (heads e).1
-no_lost x more (digits []) g e = nil_cons e
+no_lost x more lost g e = cc
+no_lost x more (digits []) g e = cc
 no_lost x more (digits (d ∷ ds)) g e = omega (arith, (heads e).0, g.2.0)
 
 no_more : (d : ℕ) (ds : List ℕ) (x : ℕ) (more : List ℕ) → d < 10 → (length (d ∷ ds) < 3 → digit x ≡ false) → (v : Written) → GoodSpeed v → speed_text v ≡ digits_text (d ∷ ds) ++ (x ∷ more) → ⊥
@@ -100,9 +84,9 @@ no_more d ds x more l f (digits es) g e =
 
 once : (v w : Written) → GoodSpeed v → GoodSpeed w → speed_text v ≡ speed_text w → v ≡ w
 once lost lost gv gw e = refl
-once lost (digits []) gv gw e = absurd (nil_cons (sym e))
+once lost (digits []) gv gw e = cc
 once lost (digits (d ∷ ds)) gv gw e = absurd (omega (arith, (heads e).0, gw.2.0))
-once (digits []) lost gv gw e = absurd (nil_cons e)
+once (digits []) lost gv gw e = cc
 once (digits (d ∷ ds)) lost gv gw e = absurd (omega (arith, (heads e).0, gv.2.0))
 once (digits ds) (digits es) gv gw e = ap digits (digits_once ds es e)
 
@@ -133,8 +117,8 @@ module _ (line : List ℕ) (at : ℕ) where
   )
 
   lost_here : (cs : List ℕ) → length line ≡ at + length (76 ∷ cs) → Ends GoodSpeed speed_text (76 ∷ cs) at (ended line (Ok (lost, at + 1)))
-  lost_here [] size = subst (Ends GoodSpeed speed_text (76 ∷ []) at) (sym (cond-true (eqb (at + 1) (length line)) (Ok lost) (Err (at + 1)) (eq-eqb (at + 1) (length line) (omega arith)))) (tt, refl)
-  lost_here (x ∷ xs) size = subst (Ends GoodSpeed speed_text (76 ∷ (x ∷ xs)) at) (sym (ap (λ (b : Bool). cond b (Ok lost) (Err (at + 1))) (ne_eqb (at + 1) (length line) (λ e. omega arith)))) (
+  lost_here [] size = rw (ended_whole lost line (at + 1) (omega arith)) (tt, refl)
+  lost_here (x ∷ xs) size = rw (ended_early lost line (at + 1) (λ e. omega arith)) (
     1,
     refl,
     record {
@@ -147,11 +131,11 @@ module _ (line : List ℕ) (at : ℕ) where
 
   -- digits and the end of the line, or what does not go on with them
   digits_here : (left : List ℕ) (d : ℕ) (ds rest : List ℕ) → left ≡ digits_text (d ∷ ds) ++ rest → d < 10 → Below 10 ds → length (d ∷ ds) ≤ 3 → ((x : ℕ) (xs : List ℕ) → rest ≡ x ∷ xs → length (d ∷ ds) < 3 → digit x ≡ false) → length line ≡ at + length left → Ends GoodSpeed speed_text left at (ended line (Ok (digits (d ∷ ds), at + length (d ∷ ds))))
-  digits_here left d ds [] split l below few stops size = subst (Ends GoodSpeed speed_text left at) (sym (cond-true (eqb (at + length (d ∷ ds)) (length line)) (Ok (digits (d ∷ ds))) (Err (at + length (d ∷ ds))) (eq-eqb (at + length (d ∷ ds)) (length line) (omega (arith, size, ap length all, digits_length (d ∷ ds)))))) ((omega arith, few, (l, below)), all)
+  digits_here left d ds [] split l below few stops size = rw (ended_whole (digits (d ∷ ds)) line (at + length (d ∷ ds)) (omega (arith, size, ap length all, digits_length (d ∷ ds)))) ((omega arith, few, (l, below)), all)
     where
       all : left ≡ digits_text (d ∷ ds)
       all = split ∙ append-nil (digits_text (d ∷ ds))
-  digits_here left d ds (x ∷ xs) split l below few stops size = subst (Ends GoodSpeed speed_text left at) (sym (ap (λ (b : Bool). cond b (Ok (digits (d ∷ ds))) (Err (at + length (d ∷ ds)))) (ne_eqb (at + length (d ∷ ds)) (length line) (λ e. omega (arith, e, size, sizes))))) (
+  digits_here left d ds (x ∷ xs) split l below few stops size = rw (ended_early (digits (d ∷ ds)) line (at + length (d ∷ ds)) (λ e. omega (arith, e, size, sizes))) (
     length (d ∷ ds),
     refl,
     record {
@@ -172,9 +156,6 @@ module _ (line : List ℕ) (at : ℕ) where
   speed_ends [] size = empty
   speed_ends (c ∷ cs) size = letter (eqb c 76) refl
     where
-      back : (48 ≤ c) → c ≡ 48 + (c - 48)
-      back h = omega arith
-
       place : at + suc (length (digits_in 2 cs)) ≡ at + 1 + length (digits_in 2 cs)
       place = omega arith
 
@@ -182,8 +163,9 @@ module _ (line : List ℕ) (at : ℕ) where
       numeral n true e =
           let h = digit_range c e in
           let r = run 2 cs in
+          let back : c ≡ 48 + (c - 48) = omega (arith, h.0) in
           subst (λ (m : ℕ). Ends GoodSpeed speed_text (c ∷ cs) at (ended line (Ok (digits ((c - 48) ∷ digits_in 2 cs), m)))) place
-          (digits_here (c ∷ cs) (c - 48) (digits_in 2 cs) r.rest (ap (λ (x : ℕ). x ∷ cs) (back h.0) ∙ ap (λ (l : List ℕ). (48 + (c - 48)) ∷ l) r.split) (omega (arith, h.0, h.1)) r.below (omega (arith, r.few)) (λ x xs i l. r.stops x xs i (omega (arith, l))) size)
+          (digits_here (c ∷ cs) (c - 48) (digits_in 2 cs) r.rest (cc (back, r.split)) (omega (arith, h.0, h.1)) r.below (omega (arith, r.few)) (λ x xs i l. r.stops x xs i (omega (arith, l))) size)
       numeral n false e = other c cs (eqb-false c 76 n) e
 
       letter : (b : Bool) → eqb c 76 ≡ b → Ends GoodSpeed speed_text (c ∷ cs) at (ended line (cond b (Ok (lost, at + 1)) (cond (digit c) (Ok (digits ((c - 48) ∷ digits_in 2 cs), at + 1 + length (digits_in 2 cs))) (Err at))))

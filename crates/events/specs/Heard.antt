@@ -1,5 +1,5 @@
 -- What the values of the code mean.
-use Rattle.std.specs.Prelude.{ℕ, ◌+◌, ◌*◌, Bool, true, false, List, [], ◌∷◌, Some, None, Ok, Err, Option, Result}
+use Rattle.std.specs.Prelude.{ℕ, ◌+◌, ◌*◌, true, false, List, [], ◌∷◌, Some, None, Ok, Err, Option, Result}
 use Rattle.cab.specs.declared.event.Event.{Event}
 use Rattle.cab.specs.declared.event.Event.TheVariants as event
 use Rattle.few.specs.Items.{items}

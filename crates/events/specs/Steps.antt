@@ -1,5 +1,5 @@
 -- What the reader's small steps give.
-use Rattle.std.specs.Prelude.{ℕ, ◌+◌, ◌-◌, List, ◌++◌, Some, None, Ok, Err, Option, slice_get, if◌then◌else◌}
+use Rattle.std.specs.Prelude.{ℕ, ◌+◌, ◌-◌, List, Some, None, Ok, Option, slice_get, if◌then◌else◌}
 use Rattle.text.specs.Parts.{Reading, and_then, digit}
 
 -- a part, with what its value means
@@ -14,8 +14,3 @@ digit_by None at = Ok (None, at)
 -- the value of the decimal digit that stands here, which is passed, if one does
 abbrev pub digit_at : List ℕ → ℕ → Reading (Option ℕ)
 digit_at line at = digit_by (slice_get line at) at
-
--- what is read, behind these bytes
-abbrev pub behind : List ℕ → Reading (List ℕ) → Reading (List ℕ)
-behind bytes (Ok p) = Ok (bytes ++ p.0, p.1)
-behind bytes (Err place) = Err place

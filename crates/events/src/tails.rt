@@ -22,6 +22,7 @@ fn digit(cursor: &mut Cursor<'_>) -> Option<u16>
 }
 
 /// A speed: L where it is lost, or up to three digits.
+#[tactic(auto, using(crate::proofs::Going::speed_is))]
 pub(crate) fn speed(cursor: &mut Cursor<'_>) -> Result<Option<u16>, Illegal>
     ensures { Reads (meaning speed_of speed_at) cursor.old cursor.new result }
 {
@@ -42,6 +43,7 @@ pub(crate) fn speed(cursor: &mut Cursor<'_>) -> Result<Option<u16>, Illegal>
 }
 
 /// The bytes of a telegram, up to the end of the line.
+#[tactic(auto, using(crate::proofs::Going::pair_steps))]
 pub(crate) fn pairs(cursor: &mut Cursor<'_>) -> Result<Bytes, Illegal>
     ensures { Reads pairs_at cursor.old cursor.new (result_as items result) }
 {

@@ -1,7 +1,7 @@
 -- The last part of a line stands up to its end. It need not say by itself where it ends.
 use Rattle.std.proofs.Common.{◌≡◌, ℕ, ◌+◌, ◌<◌, ◌≤◌, Bool, true, false, cond, eqb, List, [], ◌∷◌, ◌++◌, length, take, drop, Ok, Err, Result, sym, refl, ap, ◌∙◌, subst, ⊎_elim, append_assoc, append-nil, add-zero, add_assoc, zero-add, arith, length-append, length-drop}
 use Rattle.std.proofs.lemmas.List.{append_cancel_left, take-append-drop, drop_all}
-use Rattle.std.proofs.lemmas.Bool.{eqb-true, eqb-false}
+use Rattle.std.proofs.lemmas.Bool.{cond-true, cond-false, eq-eqb, ne_eqb, eqb-true, eqb-false}
 use Rattle.text.specs.Legal.{LineOf, IllegalAt, Tells}
 use Rattle.text.specs.Parts.{Reading, and_then, ended}
 use Rattle.text.proofs.Fronts.{either_front, take_past}
@@ -31,11 +31,19 @@ last_read {A} {Good} {write} {read} other same l = record {
   found = λ line at h. subst (λ (r : Reading A). Ends Good write (drop at line) at (ended line r)) (same line at) (l.found line at h);
 }
 
-abbrev mapped : {A B : Type 0} → (A → B) → Result A ℕ → Result B ℕ
+-- a part is the whole line just if it ends where the line does
+
+pub ended_whole : {A : Type 0} (a : A) (line : List ℕ) (n : ℕ) → n ≡ length line → ended line (Ok (a, n)) ≡ Ok a
+ended_whole a line n e = cond-true (eqb n (length line)) (Ok a) (Err n) (eq-eqb n (length line) e)
+
+pub ended_early : {A : Type 0} (a : A) (line : List ℕ) (n : ℕ) → (n ≡ length line → ⊥) → ended line (Ok (a, n)) ≡ Err n
+ended_early a line n e = cond-false (eqb n (length line)) (Ok a) (Err n) (ne_eqb n (length line) e)
+
+abbrev pub mapped : {A B : Type 0} → (A → B) → Result A ℕ → Result B ℕ
 mapped f (Ok a) = Ok (f a)
 mapped f (Err p) = Err p
 
-abbrev made : {A B : Type 0} → (A → B) → Reading A → Reading B
+abbrev pub made : {A B : Type 0} → (A → B) → Reading A → Reading B
 made f r = and_then r (λ a n. Ok (f a, n))
 
 pub ended_made : {A B : Type 0} (f : A → B) (line : List ℕ) (r : Reading A) → ended line (made f r) ≡ mapped f (ended line r)

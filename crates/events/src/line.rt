@@ -9,6 +9,7 @@ mod ops;
 pub(crate) type Bytes = Few<u8, 104>;
 
 /// What happened.
+// neither PartialEq nor Debug: `Few` has none
 #[derive(Clone, Copy)]
 pub(crate) enum What {
     Tick,

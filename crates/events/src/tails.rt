@@ -30,6 +30,7 @@ pub(crate) fn speed(cursor: &mut Cursor<'_>) -> Result<Option<u16>, Illegal>
         cursor.byte()?;
         return Ok(None);
     }
+    // digit by digit: a loop would need an invariant that bounds the value, and says no more
     let Some(first) = digit(cursor) else {
         return Err(cursor.illegal());
     };

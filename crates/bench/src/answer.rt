@@ -8,12 +8,13 @@ use std::fmt;
 use std::fmt::Formatter;
 use telegram::Telegram;
 use text::Hex;
+use writer::SHORT;
 
 /// The answer to a line that is not refused.
 #[derive(Clone, Copy)]
 pub enum Answer {
     /// The telegram that was written.
-    Written([u8; 27]),
+    Written([u8; SHORT]),
     /// What a telegram reads as.
     Reading(Telegram),
     /// The group is open.

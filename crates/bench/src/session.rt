@@ -12,10 +12,7 @@ use group::Memory;
 use refusal::Refusal;
 use std::fmt;
 use std::fmt::Write;
-use writer::Draft;
-
-/// The bytes of a short telegram.
-const SHORT: usize = 27;
+use writer::{Draft, SHORT};
 
 /// The bench at work.
 #[derive(Drop)]

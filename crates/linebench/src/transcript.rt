@@ -3,15 +3,10 @@ use crate::shown::Happening;
 use cab::Record;
 use console::Answerer;
 use events::read_event;
-use lines::{read_strip, write_strip};
+use lines::{LONGEST, read_strip, write_strip};
 use refusal::Refusal;
 use std::fmt;
 use std::fmt::Write;
-
-/// The most bytes of a strip line.
-const STRIP_LINE: usize = 30;
-/// The byte that ends a line.
-const LINE_END: u8 = 10;
 
 /// Lines are answered one by one, and nothing is remembered.
 #[derive(Clone, Copy)]
@@ -37,11 +32,11 @@ fn show_strip(line: &[u8], answers: &mut String) -> fmt::Result {
 
 /// The strip line of a record, without its byte 10.
 fn show_record(record: Record, answers: &mut String) -> fmt::Result {
-    let mut text = [0; STRIP_LINE];
+    let mut text = [0; LONGEST];
     if let Err(fault) = write_strip(record, &mut text) {
         return show_refusal(fault.into(), answers);
     }
-    for byte in text.iter().take_while(|byte| **byte != LINE_END) {
+    for byte in text.iter().take_while(|byte| **byte != b'\n') {
         answers.write_char(char::from(*byte))?;
     }
     Ok(())

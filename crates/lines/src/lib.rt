@@ -4,5 +4,6 @@
 mod puts;
 mod strip;
 
+pub use puts::LONGEST;
 pub use strip::{read_strip, write_strip};
 pub use text::TextFault;

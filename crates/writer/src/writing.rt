@@ -10,7 +10,7 @@ use crate::layout::{Field, laid_byte};
 use std::array;
 
 /// The bytes of a short telegram.
-const SHORT: usize = 27;
+pub const SHORT: usize = 27;
 
 /// The telegram of these fields.
 fn laid(fields: &[Field]) -> [u8; SHORT]

@@ -3,10 +3,10 @@ ghost use Rattle.cab.specs.Times.{TimeOf};
 
 use super::{Late, Time};
 
-/// The latest time that a unit can hold.
-const LATEST: u64 = 2_000_000_000;
-
 impl Time {
+    /// The latest time that a unit can hold, in milliseconds.
+    pub const LATEST: u64 = 2_000_000_000;
+
     /// The moment of power-up.
     pub fn zero() -> Time
         ensures { result.ms ≡ 0 }
@@ -22,7 +22,7 @@ impl TryFrom<u64> for Time {
     ghost try_from_gives = { TimeOf };
 
     fn try_from(ms: u64) -> Result<Time, Late> {
-        if ms > LATEST {
+        if ms > Time::LATEST {
             return Err(Late(ms));
         }
         Ok(Time { ms: ms as u32 })

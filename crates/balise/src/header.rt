@@ -5,6 +5,7 @@ ghost use Rattle.balise.specs.Headers.{header_text};
 use std::fmt;
 
 /// The ten fields of a header, in their order.
+// numbers as they stand, and no enums: each wrong one is a value that is refused, and all ten are printed
 #[derive(Clone, Copy, PartialEq, Eq, Debug)]
 pub struct Header {
     /// Q_UPDOWN: 1 from balise to train.

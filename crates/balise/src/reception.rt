@@ -4,5 +4,6 @@
 #[derive(Clone, Copy)]
 pub struct Reception<'a> {
     pub bytes: &'a [u8],
+    // a flag, and no `Option` of the bytes: length and closing bits are asked first, whatever the CRC
     pub crc_good: bool,
 }

@@ -10,6 +10,7 @@ use std::fmt::Write;
 const LINE_END: u8 = 10;
 
 /// What answers lines.
+// no closure in its place: who calls one has to ask in a `requires` that it may be called
 pub trait Answerer {
     /// Writes the answer to a line behind the others, without a byte 10. Of a line of more than 256 bytes it is handed the first 256.
     fn answer(&mut self, line: &[u8], answers: &mut String) -> fmt::Result;

@@ -45,6 +45,7 @@ pub fn serve<A: Answerer + Drop>(rt: &HostRuntime, answerer: A) -> anyhow::Resul
     let mut dialogue = Dialogue::new(answerer);
     let mut answers = String::new(rt.alloc());
     let mut block = [0u8; BLOCK];
+    // counted, since nothing says that an input ends
     for _ in 0..u64::MAX {
         if !turn(rt, &mut dialogue, &mut answers, &mut block)? {
             break;

@@ -6,6 +6,7 @@ use super::Valve;
 /// The valve behind two contacts in series: it is fed while both are closed.
 #[derive(PartialEq, Eq, Debug, Drop)]
 pub struct ContactPair {
+    // flags: an enum of open and closed would be a `bool` by another name
     /// Whether the first contact is closed.
     first: bool,
     /// Whether the second contact is closed.

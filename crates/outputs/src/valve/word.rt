@@ -12,6 +12,7 @@ const CUT: u32 = 0;
 
 /// The valve behind one output word. One word feeds it; every other word cuts it, so that a damaged word brakes.
 #[derive(PartialEq, Eq, Debug, Drop)]
+// a number: the host puts it out as it is, and a damaged one is a value too
 pub struct OutputWord(u32);
 
 impl OutputWord {

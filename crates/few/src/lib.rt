@@ -1,7 +1,7 @@
 //! A few items in order, at most a fixed number of them, in the value itself: it copies, and never allocates.
 #![tactic(auto)]
 
-ghost use Rattle.std.specs.Prelude.{◌≤◌};
+ghost use Rattle.std.specs.Prelude.{◌≡◌, ◌≤◌};
 
 use std::alloc::AllocError;
 
@@ -22,6 +22,10 @@ pub struct Few<T, const N: usize> {
 impl<T: Copy, const N: usize> Copy for Few<T, N> {}
 
 impl<T: Copy, const N: usize> Clone for Few<T, N> {
+    ghost is_clone = { λ few copy. copy ≡ few };
+
+    ghost is_infallible = { λ few. Unit {0} };
+
     fn clone(&self) -> Result<Self, AllocError> {
         Ok(*self)
     }

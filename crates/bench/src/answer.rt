@@ -1,7 +1,9 @@
 // What is printed.
-ghost use Rattle.std.specs.Prelude.{◌≡◌};
+ghost use Rattle.std.specs.Prelude.{◌≡◌, Some};
 ghost use Rattle.bench.specs.Answers.{heard_answer, memory_after};
+ghost use Rattle.bench.specs.Printed.{answer_text};
 
+use crate::printed::{Gathered, OrMark, Reading};
 use balise::Code;
 use group::{GroupId, Heard, Memory, OpenGroup};
 use std::fmt;
@@ -27,10 +29,6 @@ pub enum Answer {
     NoGroup,
 }
 
-/// A code as it is printed, or two marks where there is none.
-#[derive(Clone, Copy)]
-struct Stored(Option<Code>);
-
 impl Answer {
     /// What a telegram did that was heard for the group memory.
     pub fn heard(before: Memory, heard: Heard) -> Answer
@@ -49,59 +47,30 @@ impl Answer {
     }
 }
 
-impl fmt::Display for Stored {
-    fn fmt<W: fmt::Write>(&self, f: &mut Formatter<W>) -> fmt::Result {
-        match self.0 {
-            Some(code) => write!(f, "{code}"),
-            None => f.write_str("--"),
-        }
-    }
-}
-
+/// What is printed for each answer.
 impl fmt::Display for Answer {
+    ghost output = { λ answer. Some (answer_text answer) };
+
     fn fmt<W: fmt::Write>(&self, f: &mut Formatter<W>) -> fmt::Result {
-        match self {
-            Answer::Written(telegram) => {
+        match *self {
+            Answer::Written(ref telegram) => {
                 let telegram = Hex(telegram);
                 write!(f, "{telegram}")
             }
-            Answer::Reading(telegram) => show_reading(telegram, f),
-            Answer::Open(group) => show_open(group, f),
+            Answer::Reading(telegram) => {
+                let reading = Reading(telegram);
+                write!(f, "{reading}")
+            }
+            Answer::Open(group) => {
+                let group = Gathered(group);
+                write!(f, "{group}")
+            }
             Answer::Closed { id, code } => {
-                let code = Stored(*code);
+                let code = OrMark(code, "--");
                 write!(f, "C,{id},{code}")
             }
             Answer::PassedOver(id) => write!(f, "P,{id}"),
-            Answer::NoGroup => f.write_char('F'),
+            Answer::NoGroup => f.write_str("F"),
         }
     }
-}
-
-/// A header, and a comma in front of each packet.
-fn show_reading<W: fmt::Write>(telegram: &Telegram, f: &mut Formatter<W>) -> fmt::Result {
-    let header = telegram.header;
-    write!(f, "H,{header}")?;
-    for packet in telegram.packets.as_slice() {
-        write!(f, ",{packet}")?;
-    }
-    Ok(())
-}
-
-/// An open group: its name, what its first telegram said, the direction if it is known, and the codes.
-fn show_open<W: fmt::Write>(group: &OpenGroup, f: &mut Formatter<W>) -> fmt::Result {
-    let OpenGroup {
-        id,
-        total,
-        first,
-        travel,
-        codes,
-    } = *group;
-    write!(f, "O,{id},{total},{first},")?;
-    match travel {
-        Some(travel) => write!(f, "{travel}")?,
-        None => f.write_char('-')?,
-    }
-    let nominal = Stored(codes.nominal);
-    let reverse = Stored(codes.reverse);
-    write!(f, ",{nominal},{reverse}")
 }

@@ -3,6 +3,7 @@
 
 mod answer;
 mod command;
+mod printed;
 mod reception;
 mod session;
 

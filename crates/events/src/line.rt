@@ -5,9 +5,6 @@ use few::Few;
 
 mod ops;
 
-/// The bytes of a telegram, at most those of a long one.
-pub(crate) type Bytes = Few<u8, 104>;
-
 /// What happened.
 #[derive(Clone, Copy)]
 pub(crate) enum What {
@@ -21,7 +18,8 @@ pub(crate) enum What {
     Telegram {
         /// The antenna's word on the CRC.
         crc_good: bool,
-        bytes: Bytes,
+        /// At most those of a long telegram.
+        bytes: Few<u8, 104>,
     },
 }
 

@@ -4,7 +4,6 @@ ghost use Rattle.bench.specs.Commands.{letter_of};
 ghost use Rattle.bench.specs.Lines.{InLine, Keeps};
 
 use crate::reception::Handed;
-use few::Few;
 use text::{Cursor, Illegal};
 use writer::Draft;
 
@@ -43,6 +42,7 @@ impl Command {
 }
 
 /// A comma and a number behind it.
+#[tactic(auto, using(text::proofs::Within::decimal_stays))]
 fn field(cursor: &mut Cursor<'_>, limit: u16) -> Result<u16, Illegal>
     ensures keeps { Keeps cursor.old cursor.new result }
     ensures limit { IfOk result (λ n. n ≤ limit) }
@@ -95,31 +95,18 @@ fn draft(cursor: &mut Cursor<'_>) -> Result<Draft, Illegal>
     })
 }
 
-/// What stands behind `R` and `G`.
+/// What stands behind `R` and `G`. More bytes than those of a long telegram are illegal.
+#[tactic(auto, using(text::proofs::Within::pairs_stays))]
 fn handed(cursor: &mut Cursor<'_>) -> Result<Handed, Illegal>
     ensures { Keeps cursor.old cursor.new result }
 {
     let plug = field(cursor, MOST_PLUG)?;
     let crc = field(cursor, 1)?;
     cursor.expect(b',')?;
-    let bytes = telegram(cursor)?;
+    let bytes = cursor.hex_pairs::<104>()?;
     Ok(Handed {
         plug: plug as u8,
         crc_good: crc == 1,
         bytes,
     })
-}
-
-/// The telegram that fills the rest of the line. More bytes than those of a long telegram are illegal.
-fn telegram(cursor: &mut Cursor<'_>) -> Result<Few<u8, 104>, Illegal>
-    ensures { Keeps cursor.old cursor.new result }
-{
-    let mut bytes = Few::none(0);
-    while !cursor.at_end() {
-        if bytes.is_full() {
-            return Err(cursor.illegal());
-        }
-        let _ = bytes.push(cursor.hex_pair()?);
-    }
-    Ok(bytes)
 }

@@ -140,7 +140,7 @@ button_rest = last_then All button_text (λ b (p : Bool). Unit {0}) (λ b p. pre
     }
 
 telegram_rest : Last (Of kind.Telegram) rest_text (rest_at kind.Telegram)
-telegram_rest = last_then All crc_text (λ c bs. Pairs 104 bs) (λ c bs. pairs_text bs) (Of kind.Telegram) rest_text telegram composed crc_sound (λ c g. pairs_last)
+telegram_rest = last_then All crc_text (λ c bs. Pairs 104 bs) (λ c bs. pairs_text bs) (Of kind.Telegram) rest_text telegram composed crc_sound (λ c g. pairs_last 104)
   where
     composed : Composed All crc_text (λ c bs. Pairs 104 bs) (λ c bs. pairs_text bs) (Of kind.Telegram) rest_text telegram
     composed = record {

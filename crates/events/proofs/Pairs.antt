@@ -1,9 +1,9 @@
 -- The bytes of a telegram are read as they are written.
 use Rattle.std.proofs.Common.{◌≡◌, ℕ, zero, suc, ◌+◌, ◌*◌, ◌/◌, ◌%◌, ◌<◌, ◌≤◌, List, [], ◌∷◌, ◌++◌, length, take, drop, Some, None, Ok, Err, Option, Result, sym, refl, ap, ◌∙◌, add-zero, arith, length-drop}
 use Rattle.std.proofs.lemmas.Bool.Decides.{nat_tests}
+use Rattle.text.specs.Pairs.{in_front, pair_then, pairs_from, pairs_at}
 use Rattle.text.specs.Parts.{Reading, ended, hex_value}
 use Rattle.text.proofs.Last.{Ends, Last, mapped, ended_made, ended_whole}
-use Rattle.events.specs.Reads.{in_front, pair_then, pairs_from, pairs_at}
 use Rattle.events.specs.Said.{Below}
 use Rattle.events.specs.Texts.{hex_digit, pairs_text}
 
@@ -146,9 +146,9 @@ module _ (line : List ℕ) where
       first next None e = stops_first (suc most) at h (l ∷ cs) (λ more bs g i. no_high (suc most) h more bs e g i)
       first next (Some a) e = second next a e (hex_value l) refl
 
-pub pairs_last : Last (Pairs 104) pairs_text pairs_at
+pub pairs_last : (most : ℕ) → Last (Pairs most) pairs_text (pairs_at most)
 unfolding pairs_at
-pairs_last = record {
+pairs_last most = record {
   once = λ bs ds gb gd e. pairs_once bs ds gb.1 gd.1 e;
-  found = λ line at h. pairs_end line 104 (drop at line) at (omega (arith, length-drop at line, h));
+  found = λ line at h. pairs_end line most (drop at line) at (omega (arith, length-drop at line, h));
 }

@@ -1,8 +1,9 @@
 -- What the values of the code mean.
-use Rattle.std.specs.Prelude.{ℕ, ◌+◌, ◌*◌, true, false, List, [], ◌∷◌, Some, None, Ok, Err, Option, Result}
+use Rattle.std.specs.Prelude.{ℕ, ◌+◌, ◌*◌, true, false, List, [], ◌∷◌, Some, None, Option, Result}
 use Rattle.cab.specs.declared.event.Event.{Event}
 use Rattle.cab.specs.declared.event.Event.TheVariants as event
 use Rattle.few.specs.Items.{items}
+use Rattle.text.specs.Cursors.{result_as}
 use Rattle.events.specs.declared.line.EventLine.{EventLine}
 use Rattle.events.specs.declared.line.What.{What}
 use Rattle.events.specs.declared.line.What.TheVariants as what
@@ -58,11 +59,6 @@ line_heard l = (l.time, heard l)
 -- what is said: the time and what happened
 abbrev pub line_meant : Said → ℕ × Happening (Option ℕ)
 line_meant s = (s.time, meant s.what)
-
--- what a result means, if it is one
-abbrev pub result_as : {A B E : Type 0} → (A → B) → Result A E → Result B E
-result_as f (Ok a) = Ok (f a)
-result_as f (Err e) = Err e
 
 -- a line that was read, or what is wrong with it
 abbrev pub line_result : {E : Type 0} → Result EventLine E → Result (ℕ × Happening (Option ℕ)) E

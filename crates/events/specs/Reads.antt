@@ -1,5 +1,5 @@
 -- How an event line is read, part by part.
-use Rattle.std.specs.Prelude.{ℕ, zero, suc, ◌+◌, ◌-◌, ◌*◌, Bool, true, false, cond, List, [], ◌∷◌, length, drop, Some, None, Ok, Err, Option, Result, ◌==◌}
+use Rattle.std.specs.Prelude.{ℕ, zero, suc, ◌+◌, ◌-◌, Bool, true, false, cond, List, [], ◌∷◌, length, drop, Ok, Err, Result, ◌==◌}
 use Rattle.cab.specs.declared.event.Button.{Button}
 use Rattle.cab.specs.declared.event.Button.TheVariants.{Bac, Bncv, Bcvr, Bfc, Blj, Blr}
 use Rattle.cab.specs.declared.event.Kind.{Kind}
@@ -8,7 +8,8 @@ use Rattle.cab.specs.declared.event.Lever.{Lever}
 use Rattle.cab.specs.declared.event.Lever.TheVariants.{Forward, Neutral, Reverse}
 use Rattle.cab.specs.declared.event.Pulse.{Pulse}
 use Rattle.cab.specs.declared.event.Pulse.TheVariants.{Restrictive, Clear}
-use Rattle.text.specs.Parts.{Reading, and_then, ended, word_at, number_at, digit, hex_value}
+use Rattle.text.specs.Pairs.{pairs_at}
+use Rattle.text.specs.Parts.{Reading, and_then, ended, word_at, number_at, digit}
 use Rattle.events.specs.Said.{Happening, tick, speed, pulse, lever, button, telegram, Written, lost, digits, Said}
 use Rattle.events.specs.Texts.{kind_text, pulse_text, lever_text, button_text, press_text, crc_text}
 
@@ -41,28 +42,6 @@ speed_from (c ∷ cs) at = cond (c == 76) (Ok (lost, at + 1)) (cond (digit c) (O
 unfoldable pub speed_at : List ℕ → ℕ → Reading Written
 speed_at line at = speed_from (drop at line) at
 
--- this byte in front of the others
-abbrev pub in_front : ℕ → Reading (List ℕ) → Reading (List ℕ)
-in_front b (Ok p) = Ok (b ∷ p.0, p.1)
-in_front b (Err place) = Err place
-
--- the byte of two hexadecimal digits, and those behind it; at is the place of the first digit
-abbrev pub pair_then : Option ℕ → Option ℕ → ℕ → Reading (List ℕ) → Reading (List ℕ)
-pair_then None low at others = Err at
-pair_then (Some h) None at others = Err (at + 1)
-pair_then (Some h) (Some l) at others = in_front (16 * h + l) others
-
--- pairs of hexadecimal digits up to the end of the line, at most so many
-abbrev pub pairs_from : ℕ → List ℕ → ℕ → Reading (List ℕ)
-pairs_from most [] at = Ok ([], at)
-pairs_from zero (h ∷ cs) at = Err at
-pairs_from (suc most) (h ∷ []) at = pair_then (hex_value h) None at (Err at)
-pairs_from (suc most) (h ∷ (l ∷ cs)) at = pair_then (hex_value h) (hex_value l) at (pairs_from most cs (at + 2))
-
--- the bytes of a telegram
-unfoldable pub pairs_at : List ℕ → ℕ → Reading (List ℕ)
-pairs_at line at = pairs_from 104 (drop at line) at
-
 -- what stands behind the kind
 abbrev pub rest_at : Kind → List ℕ → ℕ → Reading (Happening Written)
 rest_at kind.Tick line at = Ok (tick, at)
@@ -70,7 +49,7 @@ rest_at kind.Speed line at = and_then (speed_at line at) (λ v n. Ok (speed v, n
 rest_at kind.Pulse line at = and_then (word_at pulse_text pulses line at) (λ p n. Ok (pulse p, n))
 rest_at kind.Lever line at = and_then (word_at lever_text levers line at) (λ l n. Ok (lever l, n))
 rest_at kind.Button line at = and_then (word_at button_text buttons line at) (λ b n. and_then (word_at press_text flags line n) (λ pressed m. Ok (button b pressed, m)))
-rest_at kind.Telegram line at = and_then (word_at crc_text flags line at) (λ crc n. and_then (pairs_at line n) (λ bytes m. Ok (telegram crc bytes, m)))
+rest_at kind.Telegram line at = and_then (word_at crc_text flags line at) (λ crc n. and_then (pairs_at 104 line n) (λ bytes m. Ok (telegram crc bytes, m)))
 
 -- what happened: the kind and what stands behind it
 abbrev pub what_at : List ℕ → ℕ → Reading (Happening Written)

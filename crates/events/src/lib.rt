@@ -4,7 +4,7 @@
 mod line;
 mod parts;
 mod reader;
-mod tails;
+mod speed;
 mod words;
 
 pub use line::EventLine;

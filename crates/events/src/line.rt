@@ -5,9 +5,6 @@ use few::Few;
 
 mod ops;
 
-/// The bytes of a telegram, at most those of a long one.
-pub(crate) type Bytes = Few<u8, 104>;
-
 /// What happened.
 // neither PartialEq nor Debug: `Few` has none
 #[derive(Clone, Copy)]
@@ -22,7 +19,8 @@ pub(crate) enum What {
     Telegram {
         /// The antenna's word on the CRC.
         crc_good: bool,
-        bytes: Bytes,
+        /// At most those of a long telegram.
+        bytes: Few<u8, 104>,
     },
 }
 

@@ -1,12 +1,12 @@
 // The parts of an event line: its time, and what happened.
 ghost use Rattle.cab.specs.declared.event.Kind.TheVariants.{Button, Telegram};
-ghost use Rattle.text.specs.Cursors.{Reads};
-ghost use Rattle.events.specs.Heard.{meant, line_meant, what_heard, line_result, result_as};
+ghost use Rattle.text.specs.Cursors.{Reads, result_as};
+ghost use Rattle.events.specs.Heard.{meant, line_meant, what_heard, line_result};
 ghost use Rattle.events.specs.Reads.{rest_at, event_at};
 ghost use Rattle.events.specs.Steps.{meaning};
 
 use crate::line::{EventLine, What};
-use crate::tails::{pairs, speed};
+use crate::speed::speed;
 use crate::words::{Buttons, CrcWords, Kinds, Levers, Presses, Pulses};
 use cab::Kind;
 use text::{Cursor, Illegal};
@@ -56,6 +56,6 @@ fn telegram(cursor: &mut Cursor<'_>) -> Result<What, Illegal>
     ensures { Reads (meaning meant (rest_at Telegram)) cursor.old cursor.new (result_as what_heard result) }
 {
     let crc_good = cursor.word::<CrcWords>()?;
-    let bytes = pairs(cursor)?;
+    let bytes = cursor.hex_pairs::<104>()?;
     Ok(What::Telegram { crc_good, bytes })
 }

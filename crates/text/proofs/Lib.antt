@@ -4,6 +4,7 @@ pub mod Fronts
 pub mod Last
 pub mod Loops
 pub mod Numbers
+pub mod Pairs
 pub mod Reading
 pub mod Sound
 pub mod Tables

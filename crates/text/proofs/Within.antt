@@ -1,6 +1,7 @@
 -- Where a part is illegal, that is in the line.
-use Rattle.std.proofs.Common.{◌≡◌, ℕ, ◌+◌, ◌*◌, ◌<◌, ◌≤◌, Bool, true, false, cond, eqb, leb, ◌&&◌, List, [], ◌∷◌, ◌-◌, length, slice_get, drop, Some, None, Ok, Err, Option, Result, refl, sym, ap, arith}
+use Rattle.std.proofs.Common.{◌≡◌, ℕ, ◌+◌, ◌*◌, ◌<◌, ◌≤◌, Bool, true, false, cond, eqb, leb, ◌&&◌, zero, suc, List, [], ◌∷◌, ◌-◌, length, length-drop, slice_get, drop, Some, None, Ok, Err, Option, Result, refl, sym, ap, arith}
 use Rattle.text.specs.Parts.{Reading, and_then, byte_in, byte_at, this_in, this_at, end_at, digit, digits_up, decimal_from, decimal_at, hex_value, hex_in, hex_of, hex_digit_at, hex_pair_at}
+use Rattle.text.specs.Pairs.{pair_then, pairs_from, pairs_at}
 use Rattle.text.proofs.Loops.{at_get}
 
 -- wherever in a line the part is asked for, an illegal place is in the line
@@ -89,3 +90,25 @@ hex_pair_moves line at v place e = first (slice_get line at) e
         ways (Some high) e = second high (slice_get line (at + 1)) e
         ways None e = absurd (ok_err (v, place) at (sym e))
     first None e = absurd (ok_err (v, place) at (sym e))
+
+-- pairs of digits that fill the rest of the line
+
+pairs_stay : (most : ℕ) (xs : List ℕ) (at place : ℕ) → pairs_from most xs at ≡ Err place → place ≤ at + length xs
+pairs_stay most [] at place e = absurd (ok_err ([], at) place e)
+pairs_stay zero (h ∷ cs) at place e = omega (arith, err_same {A = List ℕ × ℕ} at place e)
+pairs_stay (suc most) (h ∷ []) at place e = ways (hex_value h) e
+  where
+    ways : (o : Option ℕ) → pair_then o None at (Err at) ≡ Err place → place ≤ at + length (h ∷ [])
+    ways None e = omega (arith, err_same {A = List ℕ × ℕ} at place e)
+    ways (Some v) e = omega (arith, err_same {A = List ℕ × ℕ} (at + 1) place e)
+pairs_stay (suc most) (h ∷ (l ∷ cs)) at place e = ways (hex_value h) (hex_value l) (pairs_from most cs (at + 2)) (pairs_stay most cs (at + 2) place) e
+  where
+    ways : (o p : Option ℕ) (r : Reading (List ℕ)) → (r ≡ Err place → place ≤ at + 2 + length cs) → pair_then o p at r ≡ Err place → place ≤ at + length (h ∷ (l ∷ cs))
+    ways None p r stays e = omega (arith, err_same {A = List ℕ × ℕ} at place e)
+    ways (Some v) None r stays e = omega (arith, err_same {A = List ℕ × ℕ} (at + 1) place e)
+    ways (Some v) (Some w) (Ok p) stays e = absurd (ok_err ((16 * v + w) ∷ p.0, p.1) place e)
+    ways (Some v) (Some w) (Err q) stays e = omega (arith, stays e)
+
+pub pairs_stays : (most : ℕ) → StaysIn (pairs_at most)
+unfolding pairs_at
+pairs_stays most line at place h e = omega (arith, h, length-drop at line, pairs_stay most (drop at line) at place e)

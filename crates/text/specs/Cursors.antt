@@ -12,3 +12,8 @@ Gives part line at new (Err e) = part line at ≡ Err e.place
 -- the part was read at the cursor's old place, and the line is the same
 abbrev pub Reads : {A : Type 0} → (List ℕ → ℕ → Reading A) → Cursor → Cursor → Result A Illegal → Type 0
 Reads part old new r = Gives part old.line.now old.place new.place r × (new.line.now ≡ old.line.now)
+
+-- what a result means, if it is one
+abbrev pub result_as : {A B E : Type 0} → (A → B) → Result A E → Result B E
+result_as f (Ok a) = Ok (f a)
+result_as f (Err e) = Err e

@@ -3,3 +3,4 @@ pub mod Faults
 pub mod Hexes
 pub mod Legal
 pub mod Parts
+pub mod Pairs

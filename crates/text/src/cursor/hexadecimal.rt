@@ -1,10 +1,13 @@
 // Hexadecimal digits that stand in a line.
 ghost use Rattle.std.specs.Prelude.{◌≡◌, ◌<◌, IfSome, IfOk};
-ghost use Rattle.text.specs.Cursors.{Reads};
+ghost use Rattle.few.specs.Items.{items};
+ghost use Rattle.text.specs.Cursors.{Reads, result_as};
+ghost use Rattle.text.specs.Pairs.{pairs_at};
 ghost use Rattle.text.specs.Parts.{hex_value, hex_digit_at, hex_pair_at};
 
 use super::Cursor;
 use crate::fault::Illegal;
+use few::Few;
 
 /// The value of a hexadecimal digit, capitals only.
 fn hex_value(byte: u8) -> Option<u8>
@@ -38,5 +41,21 @@ impl Cursor<'_> {
         let high = self.hex_digit()?;
         let low = self.hex_digit()?;
         Ok(16 * high + low)
+    }
+
+    /// The bytes that pairs of hexadecimal digits make up to the end of the line. More than `N` of them are illegal.
+    #[tactic(auto, using(crate::proofs::Pairs::pair_steps))]
+    pub fn hex_pairs<const N: usize>(&mut self) -> Result<Few<u8, N>, Illegal>
+        ensures { Reads (pairs_at N) self.old self.new (result_as items result) }
+    {
+        let mut bytes = Few::none(0);
+        while !self.at_end() {
+            if bytes.is_full() {
+                return Err(self.illegal());
+            }
+            let byte = self.hex_pair()?;
+            bytes.push(byte).unwrap();
+        }
+        Ok(bytes)
     }
 }

@@ -1,12 +1,10 @@
-// What stands at the end of an event line: the digits of a speed, and the bytes of a telegram.
+// The speed, which stands at the end of an event line.
 ghost use Rattle.std.specs.Prelude.{◌<◌, IfSome, Ok};
 ghost use Rattle.text.specs.Cursors.{Reads};
-ghost use Rattle.few.specs.Items.{items};
-ghost use Rattle.events.specs.Heard.{speed_of, result_as};
-ghost use Rattle.events.specs.Reads.{speed_at, pairs_at};
+ghost use Rattle.events.specs.Heard.{speed_of};
+ghost use Rattle.events.specs.Reads.{speed_at};
 ghost use Rattle.events.specs.Steps.{meaning, digit_at};
 
-use crate::line::Bytes;
 use text::{Cursor, Illegal};
 
 /// The value of the next byte, which is passed, if it is a decimal digit.
@@ -41,20 +39,4 @@ pub(crate) fn speed(cursor: &mut Cursor<'_>) -> Result<Option<u16>, Illegal>
         return Ok(Some(first * 10 + second));
     };
     Ok(Some((first * 10 + second) * 10 + third))
-}
-
-/// The bytes of a telegram, up to the end of the line.
-#[tactic(auto, using(crate::proofs::Going::pair_steps))]
-pub(crate) fn pairs(cursor: &mut Cursor<'_>) -> Result<Bytes, Illegal>
-    ensures { Reads pairs_at cursor.old cursor.new (result_as items result) }
-{
-    let mut bytes = Bytes::none(0);
-    while !cursor.at_end() {
-        if bytes.is_full() {
-            return Err(cursor.illegal());
-        }
-        let byte = cursor.hex_pair()?;
-        bytes.push(byte).unwrap();
-    }
-    Ok(bytes)
 }

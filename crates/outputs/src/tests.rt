@@ -29,10 +29,10 @@ fn a_full_recorder_does_not_keep_the_valve_fed(rt: HostRuntime) {
     let mut slots = [tick(); 1];
     let mut strip = Log::new(&mut slots);
     let mut pair = ContactPair::from_contacts(true, true);
-    assert!(rt; cut_and_record(&mut pair, &mut strip, tick()).is_ok() && !pair.is_fed());
+    assert!(rt; cut_and_record(&mut pair, &mut strip, tick()) && !pair.is_fed());
     let mut word = OutputWord::from(0xA5C3_5A3C);
     assert!(rt; word.is_fed());
-    assert!(rt; cut_and_record(&mut word, &mut strip, tick()).is_err() && !word.is_fed());
+    assert!(rt; !cut_and_record(&mut word, &mut strip, tick()) && !word.is_fed());
     assert!(rt; strip.len() == 1);
 }
 

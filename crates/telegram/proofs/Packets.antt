@@ -1,11 +1,14 @@
 -- What follows of packets.
-use Rattle.std.proofs.Common.{◌≡◌, ℕ, suc, ◌+◌, ◌-◌, ◌<◌, ◌≤◌, List, [], ◌∷◌, ◌++◌, length, Ok, Err, Result, sym, refl, ap, ◌∙◌, append_assoc, arith}
+use Rattle.std.proofs.Common.{◌≡◌, ℕ, suc, ◌+◌, ◌-◌, ◌*◌, ◌<◌, ◌≤◌, List, [], ◌∷◌, ◌++◌, length, take, drop, Some, None, Ok, Err, Option, Result, sym, refl, ap, ◌∙◌, add_assoc, append_assoc, arith}
+use Rattle.std.proofs.lemmas.List.{take_rest}
 use Rattle.std.proofs.lemmas.Bool.{cond-true, cond-false, lt-ltb, le-ltb}
-use Rattle.telegram.specs.Packets.{Lasts, Within, packet_in, before, packets_by, packets_from}
+use Rattle.telegram.proofs.Fields.{field_drop}
+use Rattle.telegram.specs.Packets.{Lasts, Within, directed_packet_in, packet_in, before, packets_by, packets_from}
 use Rattle.balise.specs.declared.faults.PacketFault.{PacketFault}
 use Rattle.balise.specs.declared.faults.PacketFault.TheVariants.{NoEnd}
 use Rattle.telegram.specs.declared.packet.Found.{Found}
 use Rattle.telegram.specs.declared.packet.Found.TheVariants.{End, Other, Tbl1}
+use Rattle.balise.specs.declared.packet.Direction.{Direction}
 use Rattle.balise.specs.declared.packet.Tbl1Packet.{Tbl1Packet}
 
 -- a packet whose length keeps it within the telegram lies within it
@@ -14,6 +17,15 @@ within_by_length (Ok End) length at end l s e = tt
 within_by_length (Ok (Other n)) length at end l s e = (omega arith, omega arith)
 within_by_length (Ok (Tbl1 p)) length at end l s e = omega arith
 within_by_length (Err f) length at end l s e = tt
+
+-- packet 44 of the part from byte k on is that of the whole telegram, 8 * k bits further
+directed_drop : (bytes : List ℕ) (k place : ℕ) (d : Option Direction) (l at : ℕ) → directed_packet_in (drop k bytes) place d l at ≡ directed_packet_in bytes (8 * k + place) d l at
+directed_drop bytes k place None l at = refl
+directed_drop bytes k place (Some d) l at = simp (field_drop, add_assoc)
+
+-- a packet of the part `&bytes[k..]` is that packet of the whole telegram
+pub packet_part : (bytes part : List ℕ) (k place at end : ℕ) → part ≡ take (length bytes - k) (drop k bytes) → 8 * k + place ≡ at → packet_in part place at end ≡ packet_in bytes at at end
+packet_part bytes part k place at end p e = rw (p, take_rest, ← e) (simp (field_drop, directed_drop, add_assoc))
 
 -- packets behind others
 abbrev pub behind : List Tbl1Packet → Result (List Tbl1Packet) PacketFault → Result (List Tbl1Packet) PacketFault

@@ -21,7 +21,8 @@ fn bit(bytes: &[u8], place: usize) -> u8
 impl<'a> BitReader<'a> {
     /// A reader of `bytes` that begins at the bit `place`.
     pub fn new(bytes: &'a [u8], place: usize) -> Self
-        ensures { (result.bytes.now ≡ bytes.now) × (result.place ≡ place) }
+        ensures bytes { result.bytes.now ≡ bytes.now }
+        ensures place { result.place ≡ place }
     {
         BitReader { bytes, place }
     }

@@ -90,7 +90,9 @@ impl Accepted<'_> {
             if at + 8 > end {
                 return Err(PacketFault::NoEnd { at });
             }
-            match read_packet(bytes, at, end)? {
+            // the telegram from the packet's first byte on, and the packet's first bit in it
+            let reader = BitReader::new(&bytes[at / 8..], at % 8);
+            match read_packet(reader, at, end)? {
                 Found::End => return Ok(list),
                 Found::Other { length } => at += length,
                 Found::Tbl1 { packet } => {

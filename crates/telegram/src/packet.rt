@@ -1,5 +1,5 @@
 // One packet of a telegram.
-ghost use Rattle.std.specs.Prelude.{◌≡◌, ◌+◌, ◌<◌, ◌≤◌};
+ghost use Rattle.std.specs.Prelude.{◌≡◌, ◌+◌, ◌%◌, ◌≤◌};
 ghost use Rattle.telegram.specs.Packets.{packet_in, user_packet_in, Lasts, Within};
 
 use crate::bits::BitReader;
@@ -28,13 +28,12 @@ const USER_BITS: usize = 32;
 /// A TBL1+ packet: the fixed part, NID_XUSER and two digits.
 pub const TBL1_BITS: usize = 48;
 
-/// The packet that begins at the bit `at` of a telegram whose bits end at `end`.
-pub fn read_packet(telegram: &[u8], at: usize, end: usize) -> Result<Found, PacketFault>
-    requires { at ≤ 830 }
-    ensures value { result ≡ packet_in telegram.now at at end }
+/// The packet that begins where `reader` stands, which holds the telegram from the packet's first byte on. In the telegram, whose bits end at `end`, the packet begins at the bit `at`.
+pub fn read_packet(mut reader: BitReader<'_>, at: usize, end: usize) -> Result<Found, PacketFault>
+    requires { (reader.place ≡ at % 8) × (at ≤ 830) }
+    ensures value { result ≡ packet_in reader.entry.bytes.now reader.entry.place at end }
     ensures within { Within result at end }
 {
-    let mut reader = BitReader::new(telegram, at);
     let id = reader.take(8);
     if id == END {
         return Ok(Found::End);
@@ -63,7 +62,7 @@ fn read_user_packet(
     length: usize,
     at: usize,
 ) -> Result<Found, PacketFault>
-    requires { reader.place ≤ 1000 }
+    requires { reader.place ≤ 100 }
     ensures value { result ≡ user_packet_in reader.entry.bytes.now reader.entry.place direction length at }
     ensures length { Lasts result length }
 {

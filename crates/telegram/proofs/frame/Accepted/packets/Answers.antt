@@ -6,7 +6,7 @@ use Rattle.telegram.specs.Telegrams.{packets_in}
 use Rattle.telegram.specs.declared.packet.Found.{Found}
 use Rattle.telegram.specs.declared.packet.Found.TheVariants.{End, Other, Tbl1}
 use Rattle.telegram.proofs.Forms.{form_short}
-use Rattle.telegram.proofs.Packets.{behind, behind_before, turn_found}
+use Rattle.telegram.proofs.Packets.{behind, behind_before, packet_part, turn_found}
 use Rattle.telegram.proofs.frame.Accepted.packets.Goals as goal
 use Rattle.telegram.proofs.frame.Accepted.packets.Goals.{After-read_packet, in-Other, in-Tbl1}
 
@@ -15,7 +15,7 @@ turned : (c : After-read_packet) (found : Result Found PacketFault) → c.read_p
     → behind (packets_of c.loop.list) (packets_by found c.loop.at (λ next. packets_from (34 - (c.loop.counter + 1)) c.args.self.now.frame.bytes.now next c.args.self.now.frame.form.bits))
     ≡ packets_in c.args.self.now.frame.bytes.now
 turned c found is =
-    turn_found c.args.self.now.frame.bytes.now c.loop.at c.args.self.now.frame.form.bits 34 c.loop.counter (packets_of c.loop.list) _ found c.loop.invariant.whole c.loop-test.true (omega arith) (sym is ∙ c.read_packet.ensures.value)
+    turn_found c.args.self.now.frame.bytes.now c.loop.at c.args.self.now.frame.form.bits 34 c.loop.counter (packets_of c.loop.list) _ found c.loop.invariant.whole c.loop-test.true (omega arith) (sym is ∙ c.read_packet.ensures.value ∙ packet_part _ _ _ _ _ _ c.new-reader.ensures.bytes (omega arith))
 
 pub returns-in_err-read_packet-clause-value : goal.returns-in_err-read_packet-clause-value
 returns-in_err-read_packet-clause-value c =

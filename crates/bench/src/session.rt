@@ -40,6 +40,7 @@ impl Session {
         }
     }
 
+    // three contracts say `memory_left`, each of its own answer: it is no fact of the session alone
     /// The answer to a line.
     fn reply(&mut self, line: &[u8]) -> Result<Answer, Refusal>
         ensures { self.new.memory ≡ memory_left result self.old.memory }

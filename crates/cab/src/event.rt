@@ -38,7 +38,7 @@ pub enum Button {
 }
 
 /// What happens. A telegram's bytes stay the caller's.
-#[derive(Clone, Copy)]
+#[derive(Clone, Copy, PartialEq, Eq, Debug)]
 pub enum Event<'a> {
     /// Time goes on.
     Tick,

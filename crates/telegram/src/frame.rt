@@ -12,7 +12,7 @@ use crate::packet::{Found, TBL1_BITS, read_packet};
 use balise::{FrameFault, Header, HeaderFault, PacketFault, Reception};
 
 /// A telegram whose length, closing bits and CRC are right.
-#[derive(Clone, Copy)]
+#[derive(Clone, Copy, PartialEq, Eq, Debug)]
 pub struct Frame<'a> {
     bytes: &'a [u8],
     form: Form,
@@ -21,7 +21,7 @@ pub struct Frame<'a> {
 }
 
 /// A telegram whose header was accepted too.
-#[derive(Clone, Copy)]
+#[derive(Clone, Copy, PartialEq, Eq, Debug)]
 pub struct Accepted<'a> {
     frame: Frame<'a>,
     header: Header,

@@ -15,6 +15,7 @@ pub enum Found {
     Tbl1 { packet: Tbl1Packet },
 }
 
+// numbers and no enums: of 256 identities of packets two mean something here, of 512 of users one
 /// NID_PACKET of the packet that ends a telegram.
 const END: u16 = 255;
 /// NID_PACKET of the packet that belongs to a user.

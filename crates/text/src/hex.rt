@@ -5,7 +5,7 @@ ghost use Rattle.text.specs.Hexes.{hex_byte, hex_text};
 use std::fmt;
 
 /// A byte as it is written in a line.
-#[derive(Clone, Copy)]
+#[derive(Clone, Copy, PartialEq, Eq, Debug)]
 struct HexByte(u8);
 
 impl fmt::Display for HexByte {
@@ -18,7 +18,7 @@ impl fmt::Display for HexByte {
 }
 
 /// Bytes as they are written in a line: two hexadecimal digits for each, capitals.
-#[derive(Clone, Copy)]
+#[derive(Clone, Copy, PartialEq, Eq, Debug)]
 pub struct Hex<'a>(pub &'a [u8]);
 
 impl fmt::Display for Hex<'_> {

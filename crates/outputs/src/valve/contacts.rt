@@ -14,6 +14,7 @@ pub struct ContactPair {
 }
 
 impl ContactPair {
+    // no `Default`: a name and a contract say that a valve begins cut
     /// Both contacts open: the valve is cut.
     pub fn new() -> Self
         ensures { (result.first ≡ false) × (result.second ≡ false) }

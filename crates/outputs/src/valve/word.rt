@@ -16,6 +16,7 @@ const CUT: u32 = 0;
 pub struct OutputWord(u32);
 
 impl OutputWord {
+    // no `Default`, as for the contacts
     /// The output word with the valve cut.
     pub fn new() -> Self
         ensures word { result.0 ≡ 0 }

@@ -9,6 +9,7 @@ use Rattle.cab.specs.declared.event.Lever.TheVariants.{Forward, Neutral, Reverse
 use Rattle.cab.specs.declared.event.Pulse.{Pulse}
 use Rattle.cab.specs.declared.event.Pulse.TheVariants.{Restrictive, Clear}
 use Rattle.text.specs.Faults.{illegal_at}
+use Rattle.text.specs.Hexes.{hex_text}
 use Rattle.text.specs.Legal.{Tells}
 use Rattle.text.specs.Parts.{Reading, and_then, word_at}
 use Rattle.text.specs.declared.fault.TextFault.{TextFault}
@@ -16,21 +17,17 @@ use Rattle.text.specs.declared.fault.TextFault.TheVariants.{Illegal, Short}
 use Rattle.text.proofs.Decimals.{with_comma}
 use Rattle.text.proofs.Numbers.{numbers_sound}
 use Rattle.text.proofs.Sound.{Sound}
-use Rattle.text.proofs.Fields.{word_sound}
+use Rattle.text.proofs.Fields.{All, word_sound}
 use Rattle.text.proofs.Tables.{Among}
 use Rattle.events.specs.declared.line.EventLine.{EventLine}
 use Rattle.events.specs.Heard.{line_result, result_meant}
 use Rattle.events.specs.Law.{Lawful, ReadsBack}
 use Rattle.events.specs.Reads.{kinds, pulses, levers, buttons, flags, rest_at, what_at, said, event_at, event_read}
 use Rattle.events.specs.Said.{Happening, tick, speed, pulse, lever, button, telegram, Written, lost, Said, GoodWhat, Good}
-use Rattle.events.specs.Texts.{kind_text, kind_of, pulse_text, lever_text, button_text, press_text, crc_text, pairs_text, rest_text, event_text}
+use Rattle.events.specs.Texts.{kind_text, kind_of, pulse_text, lever_text, button_text, press_text, crc_text, rest_text, event_text}
 use Rattle.text.proofs.Last.{Last, last_read, last_map, last_then, last_none, sound_last, last_tells, last_reads_back, Composed}
 use Rattle.events.proofs.Pairs.{Pairs, pairs_last}
 use Rattle.events.proofs.Speeds.{speed_last}
-
--- every value
-abbrev All : {A : Type 0} → A → Type 0
-All a = Unit {0}
 
 -- Words: each value is in its table.
 
@@ -140,9 +137,9 @@ button_rest = last_then All button_text (λ b (p : Bool). Unit {0}) (λ b p. pre
     }
 
 telegram_rest : Last (Of kind.Telegram) rest_text (rest_at kind.Telegram)
-telegram_rest = last_then All crc_text (λ c bs. Pairs 104 bs) (λ c bs. pairs_text bs) (Of kind.Telegram) rest_text telegram composed crc_sound (λ c g. pairs_last 104)
+telegram_rest = last_then All crc_text (λ c bs. Pairs 104 bs) (λ c bs. hex_text bs) (Of kind.Telegram) rest_text telegram composed crc_sound (λ c g. pairs_last 104)
   where
-    composed : Composed All crc_text (λ c bs. Pairs 104 bs) (λ c bs. pairs_text bs) (Of kind.Telegram) rest_text telegram
+    composed : Composed All crc_text (λ c bs. Pairs 104 bs) (λ c bs. hex_text bs) (Of kind.Telegram) rest_text telegram
     composed = record {
       good = λ c bs g h. (h, refl);
       wrote = λ c bs g h. refl;

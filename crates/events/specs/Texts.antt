@@ -1,5 +1,5 @@
 -- How an event line is written, as ASCII codes and without its byte 10.
-use Rattle.std.specs.Prelude.{ℕ, ◌+◌, ◌/◌, ◌%◌, Bool, true, false, cond, List, [], ◌∷◌, ◌++◌, map, codes, decimal, nat_lt}
+use Rattle.std.specs.Prelude.{ℕ, ◌+◌, Bool, true, false, List, [], ◌++◌, map, codes, decimal}
 use Rattle.cab.specs.declared.event.Button.{Button}
 use Rattle.cab.specs.declared.event.Button.TheVariants.{Bac, Bncv, Bcvr, Bfc, Blj, Blr}
 use Rattle.cab.specs.declared.event.Kind.{Kind}
@@ -8,6 +8,7 @@ use Rattle.cab.specs.declared.event.Lever.{Lever}
 use Rattle.cab.specs.declared.event.Lever.TheVariants.{Forward, Neutral, Reverse}
 use Rattle.cab.specs.declared.event.Pulse.{Pulse}
 use Rattle.cab.specs.declared.event.Pulse.TheVariants.{Restrictive, Clear}
+use Rattle.text.specs.Hexes.{hex_text}
 use Rattle.events.specs.Said.{Happening, tick, speed, pulse, lever, button, telegram, Written, lost, digits, Said}
 
 -- the letter of a kind, and its comma where more follows
@@ -51,15 +52,6 @@ abbrev pub speed_text : Written → List ℕ
 speed_text lost = codes "L"
 speed_text (digits ds) = map (λ d. 48 + d) ds
 
--- the hexadecimal digit of a value below 16, a capital
-abbrev pub hex_digit : ℕ → ℕ
-hex_digit n = cond (nat_lt n 10) (48 + n) (55 + n)
-
--- two hexadecimal digits for each byte
-abbrev pub pairs_text : List ℕ → List ℕ
-pairs_text [] = []
-pairs_text (b ∷ bs) = hex_digit (b / 16) ∷ hex_digit (b % 16) ∷ pairs_text bs
-
 abbrev pub kind_of : {V : Type 0} → Happening V → Kind
 kind_of tick = kind.Tick
 kind_of (speed v) = kind.Speed
@@ -75,7 +67,7 @@ rest_text (speed v) = speed_text v
 rest_text (pulse p) = pulse_text p
 rest_text (lever l) = lever_text l
 rest_text (button b pressed) = button_text b ++ press_text pressed
-rest_text (telegram crc bytes) = crc_text crc ++ pairs_text bytes
+rest_text (telegram crc bytes) = crc_text crc ++ hex_text bytes
 
 -- the line: its time and a comma, the kind, and the rest
 abbrev pub event_text : Said → List ℕ

@@ -31,11 +31,6 @@ alike_left [] ys = omega arith
 alike_left (x ∷ xs) [] = omega arith
 alike_left (x ∷ xs) (y ∷ ys) = let h = alike_left xs ys in cond_both (eqb x y) (suc (alike xs ys)) 0 (λ n. n ≤ suc (length xs)) (λ e. omega arith) (λ e. omega arith)
 
-pub alike_right : (xs ys : List ℕ) → alike xs ys ≤ length ys
-alike_right [] ys = omega arith
-alike_right (x ∷ xs) [] = omega arith
-alike_right (x ∷ xs) (y ∷ ys) = let h = alike_right xs ys in cond_both (eqb x y) (suc (alike xs ys)) 0 (λ n. n ≤ suc (length ys)) (λ e. omega arith) (λ e. omega arith)
-
 -- as far as two texts begin alike they are equal
 pub alike_front : (k : ℕ) (xs ys : List ℕ) → k ≤ alike xs ys → take k xs ≡ take k ys
 alike_front zero xs ys h = refl

@@ -5,8 +5,6 @@ pub mod Last
 pub mod Loops
 pub mod Numbers
 pub mod Pairs
-pub mod Reading
 pub mod Sound
 pub mod Tables
-pub mod Whole
 pub mod Within

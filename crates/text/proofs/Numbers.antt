@@ -3,9 +3,10 @@ use Rattle.std.proofs.Common.{◌≡◌, ℕ, ◌+◌, ◌-◌, ◌*◌, ◌^◌
 use Rattle.std.proofs.lemmas.Fmt.{decimal_digit}
 use Rattle.std.proofs.lemmas.List.{take_at, drop_at, drop-drop}
 use Rattle.std.proofs.lemmas.Bool.{and_parts, and_from, leb-true, le-leb, ltb-true, lt-ltb, eqb-true, eqb-false, both_ways}
-use Rattle.text.specs.Parts.{Reading, digit, goes_on, digits_from, number_from, number_at}
+use Rattle.text.specs.Parts.{Reading, and_then, this_in, this_at, digit, goes_on, digits_up, decimal_from, number_at}
 use Rattle.text.proofs.Fronts.{heads, nil_cons, take_past}
-use Rattle.text.proofs.Sound.{Apart, Stops, Takes, Found, Sound}
+use Rattle.text.proofs.Loops.{at_get}
+use Rattle.text.proofs.Sound.{Apart, Stops, Found, Sound}
 use Rattle.text.proofs.Decimals.{with_comma, up_to, digit_is, digit_range, up_to_ge, up_to_decimal, decimal_push, Further, behind_number}
 
 module _ (limit : ℕ) (small : limit < 2 ^ 64) where
@@ -56,48 +57,47 @@ module _ (limit : ℕ) (small : limit < 2 ^ 64) where
   abbrev Goes : List ℕ → ℕ → ℕ → ℕ → List ℕ → ℕ → Type 0
   Goes line at v c cs n = (drop at line ≡ decimal (v * 10 + (c - 48)) ++ cs) × (n + 1 ≡ at + length (decimal (v * 10 + (c - 48))))
 
+  -- a number and the comma behind it
+  abbrev comma_behind : List ℕ → ℕ × ℕ → Reading ℕ
+  comma_behind line p = and_then (this_at 44 line p.1) (λ u m. Ok (p.0, m))
+
+  -- the digits of v stand at this place, and no digit goes on them
+  digits_end : (line : List ℕ) (at v : ℕ) → v ≤ limit → (cs : List ℕ) (n : ℕ) → drop at line ≡ decimal v ++ cs → n ≡ at + length (decimal v) → ((t : ℕ) → t ≤ limit → Further t v cs → ⊥) → Found Within with_comma line at (comma_behind line (v, n))
+  digits_end line at v good cs n e i no_digit = at_get (λ o xs. xs ≡ cs → Found Within with_comma line at (and_then (this_in 44 o n) (λ u m. Ok (v, m)))) line n (λ c l q. ways c (eqb c 44) refl q) (λ q. stops (λ more y. nil_cons (q ∙ y))) left
+    where
+      left : drop n line ≡ cs
+      left = ap (λ (m : ℕ). drop m line) i ∙ sym (drop-drop (length (decimal v)) at line) ∙ ap (drop (length (decimal v))) e ∙ drop_at (decimal v) cs (length (decimal v)) refl
+
+      stops : ((more : List ℕ) → cs ≡ 44 ∷ more → ⊥) → Found Within with_comma line at (Err n)
+      stops no_comma = record {
+        q = length (decimal v);
+        place = i;
+        stops = subst (λ (x : List ℕ). Stops Within with_comma x (length (decimal v))) (sym e) (digits_stop v good cs no_comma no_digit);
+      }
+
+      ways : (c : ℕ) (k : Bool) → eqb c 44 ≡ k → c ∷ drop (n + 1) line ≡ cs → Found Within with_comma line at (and_then (cond k (Ok (tt {0}, n + 1)) (Err n)) (λ u m. Ok (v, m)))
+      ways c true z q = record {
+        good = good;
+        next = omega (arith, i, length-append (decimal v) (44 ∷ []));
+        split = e ∙ ap (λ (x : List ℕ). decimal v ++ x) (sym q ∙ ap (λ (x : ℕ). x ∷ drop (n + 1) line) (eqb-true c 44 z)) ∙ sym (append_assoc (decimal v) (44 ∷ []) (drop (n + 1) line));
+      }
+      ways c false z q = stops (λ more y. eqb-false c 44 z (heads (q ∙ y)).0)
+
   -- the digits of v stand at this place, and the reading goes on behind them
-  digits_found : (line : List ℕ) (at v : ℕ) → v ≤ limit → (cs : List ℕ) (n : ℕ) → drop at line ≡ decimal v ++ cs → n ≡ at + length (decimal v) → Found Within with_comma line at (digits_from limit v cs n)
-  digits_found line at v good [] n e i = record {
-    q = length (decimal v);
-    place = i;
-    stops = subst (λ (x : List ℕ). Stops Within with_comma x (length (decimal v))) (sym e) (digits_stop v good [] (λ more z. nil_cons z) (λ t l f. nil_cons f.is));
-  }
-  digits_found line at v good (c ∷ cs) n e i = ways (λ w l. digits_found line at (v * 10 + (c - 48)) l cs (n + 1) w.0 w.1) (goes_on limit v c) refl (eqb c 44) refl
+  digits_found : (line : List ℕ) (at v : ℕ) → v ≤ limit → (cs : List ℕ) (n : ℕ) → drop at line ≡ decimal v ++ cs → n ≡ at + length (decimal v) → Found Within with_comma line at (comma_behind line (digits_up limit v cs n))
+  digits_found line at v good [] n e i = digits_end line at v good [] n e i (λ t l f. nil_cons f.is)
+  digits_found line at v good (c ∷ cs) n e i = ways (λ w l. digits_found line at (v * 10 + (c - 48)) l cs (n + 1) w.0 w.1) (goes_on limit v c) refl
     where
       goes : digit c ≡ true → 0 < v → v * 10 + (c - 48) ≤ limit → Goes line at v c cs n
       goes d some l =
           let r = digit_range c d in
-          let push : decimal (v * 10 + (c - 48)) ≡ decimal v ++ (c ∷ []) = decimal_push v (c - 48) some (omega (arith, r.0, r.1)) (omega arith) ∙ ap (λ (x : ℕ). decimal v ++ (x ∷ [])) (back c r.0) in
+          let back : 48 + (c - 48) ≡ c = omega (arith, r.0) in
+          let push : decimal (v * 10 + (c - 48)) ≡ decimal v ++ (c ∷ []) = decimal_push v (c - 48) some (omega (arith, r.0, r.1)) (omega arith) ∙ ap (λ (x : ℕ). decimal v ++ (x ∷ [])) back in
           (e ∙ sym (append_assoc (decimal v) (c ∷ []) cs) ∙ ap (λ (x : List ℕ). x ++ cs) (sym push), omega (arith, i, ap length push, length-append (decimal v) (c ∷ [])))
-        where
-          back : (c : ℕ) → 48 ≤ c → 48 + (c - 48) ≡ c
-          back c h = omega arith
 
-      comma : c ≡ 44 → Takes Within with_comma line at v (n + 1)
-      comma z = record {
-        good = good;
-        next = next;
-        split = whole ∙ ap (λ (x : List ℕ). with_comma v ++ x) (sym rest);
-      }
-        where
-          whole : drop at line ≡ with_comma v ++ cs
-          whole = e ∙ ap (λ (x : ℕ). decimal v ++ (x ∷ cs)) z ∙ sym (append_assoc (decimal v) (44 ∷ []) cs)
-
-          next : n + 1 ≡ at + length (with_comma v)
-          next = omega (arith, i, length-append (decimal v) (44 ∷ []))
-
-          rest : drop (n + 1) line ≡ cs
-          rest = ap (λ (m : ℕ). drop m line) next ∙ sym (drop-drop (length (with_comma v)) at line) ∙ ap (drop (length (with_comma v))) whole ∙ drop_at (with_comma v) cs (length (with_comma v)) refl
-
-      ways : (Goes line at v c cs n → v * 10 + (c - 48) ≤ limit → Found Within with_comma line at (digits_from limit (v * 10 + (c - 48)) cs (n + 1))) → (b : Bool) → goes_on limit v c ≡ b → (k : Bool) → eqb c 44 ≡ k → Found Within with_comma line at (cond b (digits_from limit (v * 10 + (c - 48)) cs (n + 1)) (cond k (Ok (v, n + 1)) (Err n)))
-      ways on true h k z = let p = goes_parts v c h in on (goes p.0 p.1 p.2) p.2
-      ways on false h true z = comma (eqb-true c 44 z)
-      ways on false h false z = record {
-        q = length (decimal v);
-        place = i;
-        stops = subst (λ (x : List ℕ). Stops Within with_comma x (length (decimal v))) (sym e) (digits_stop v good (c ∷ cs) (λ more y. eqb-false c 44 z (heads y).0) (λ t l f. both_ways (goes_on limit v c) h (further_goes t v c cs l f)));
-      }
+      ways : (Goes line at v c cs n → v * 10 + (c - 48) ≤ limit → Found Within with_comma line at (comma_behind line (digits_up limit (v * 10 + (c - 48)) cs (n + 1)))) → (b : Bool) → goes_on limit v c ≡ b → Found Within with_comma line at (comma_behind line (cond b (digits_up limit (v * 10 + (c - 48)) cs (n + 1)) (v, n)))
+      ways on true h = let p = goes_parts v c h in on (goes p.0 p.1 p.2) p.2
+      ways on false h = digits_end line at v good (c ∷ cs) n e i (λ t l f. both_ways (goes_on limit v c) h (further_goes t v c cs l f))
 
   -- the first byte of a number is a digit, and its value is within the number
   first_digit : (t c : ℕ) (more s : List ℕ) → t ≤ limit → decimal t ++ (44 ∷ more) ≡ c ∷ s → (digit c && leb (c - 48) limit) ≡ true
@@ -130,7 +130,7 @@ module _ (limit : ℕ) (small : limit < 2 ^ 64) where
       stray [] bad h t more g e = omega arith
       stray (c ∷ cs) bad h t more g e = both_ways (digit c && leb (c - 48) limit) (bad c cs refl) (first_digit t c [] more g e)
 
-  number_found : (line : List ℕ) (at : ℕ) (left : List ℕ) → drop at line ≡ left → Found Within with_comma line at (number_from limit left at)
+  number_found : (line : List ℕ) (at : ℕ) (left : List ℕ) → drop at line ≡ left → Found Within with_comma line at (and_then (decimal_from limit left at) (λ v n. comma_behind line (v, n)))
   number_found line at [] e = record { q = 0; place = sym (add-zero at); stops = no_number (drop at line) (λ c cs i. absurd (nil_cons (sym e ∙ i))) }
   number_found line at (c ∷ cs) e = ways (digit c && leb (c - 48) limit) refl
     where
@@ -140,7 +140,7 @@ module _ (limit : ℕ) (small : limit < 2 ^ 64) where
           back : (c : ℕ) → 48 ≤ c → 48 + (c - 48) ≡ c
           back c h = omega arith
 
-      ways : (b : Bool) → (digit c && leb (c - 48) limit) ≡ b → Found Within with_comma line at (cond b (digits_from limit (c - 48) cs (at + 1)) (Err at))
+      ways : (b : Bool) → (digit c && leb (c - 48) limit) ≡ b → Found Within with_comma line at (and_then (cond b (Ok (digits_up limit (c - 48) cs (at + 1))) (Err at)) (λ v n. comma_behind line (v, n)))
       ways true h =
           let p = and_parts (digit c) (leb (c - 48) limit) h in
           let f = first (digit_range c p.0) in

@@ -34,12 +34,6 @@ clear_not xs ys s t h e =
     (λ (m : (m : List ℕ) × (ys ≡ xs ++ m)). omega (arith, alike_far (length xs) xs ys m.0 (omega arith) (m.1 ∙ ap (λ (x : List ℕ). x ++ m.0) (sym (take_all (length xs) xs (omega arith)))), l))
     (either_front xs ys s t e)
 
-some_same : {X : Type 0} (x y : X) → Some x ≡ Some y → x ≡ y
-some_same x y e = cc
-
-none_some : {X : Type 0} (x : X) → None ≡ Some x → ⊥
-none_some x e = let z : ◌≡◌ {A = ℕ} 0 1 = cc in omega arith
-
 module _ {A : Type 0} (word : A → List ℕ) where
   clear_among : (a b : A) (bs : List A) (s t : List ℕ) → clear_of_all word a bs ≡ true → Among b bs → word a ++ s ≡ word b ++ t → ⊥
   clear_among a b [] s t h m e = m
@@ -66,12 +60,12 @@ module _ {A : Type 0} (word : A → List ℕ) where
       ga
 
   picked_some : (all : List A) (text : List ℕ) (a : A) → picked word all text ≡ Some a → Among a all × (alike text (word a) ≡ length (word a))
-  picked_some [] text a e = absurd (none_some a e)
+  picked_some [] text a e = cc
   picked_some (x ∷ xs) text a e = here (picked_some xs text a) (begins text (word x)) refl e
     where
       here : (picked word xs text ≡ Some a → Among a xs × (alike text (word a) ≡ length (word a))) → (b : Bool) → begins text (word x) ≡ b → cond b (Some x) (picked word xs text) ≡ Some a → Among a (x ∷ xs) × (alike text (word a) ≡ length (word a))
       here rest true t e =
-          let i : x ≡ a = some_same x a e in
+          let i : x ≡ a = cc in
           (inl (sym i), ap (λ (y : A). alike text (word y)) (sym i) ∙ eqb-true (alike text (word x)) (length (word x)) t ∙ ap (λ (y : A). length (word y)) i)
       here rest false t e = let p = rest e in (inr p.0, p.1)
 
@@ -80,7 +74,7 @@ module _ {A : Type 0} (word : A → List ℕ) where
   picked_none (x ∷ xs) text a e m s = here (λ n i. picked_none xs text a n i s) (begins text (word x)) refl e
     where
       here : (picked word xs text ≡ None → Among a xs → ⊥) → (b : Bool) → begins text (word x) ≡ b → cond b (Some x) (picked word xs text) ≡ None → ⊥
-      here rest true t e = none_some x (sym e)
+      here rest true t e = cc
       here rest false t e =
           ⊎_elim
           (λ (i : a ≡ x). eqb-false (alike text (word x)) (length (word x)) t (ap (λ (y : A). alike text (word y)) (sym i) ∙ s ∙ ap (λ (y : A). length (word y)) i))

@@ -1,5 +1,5 @@
 -- How the parts of a line are read, from left to right.
-use Rattle.std.specs.Prelude.{ℕ, suc, ◌+◌, ◌-◌, ◌*◌, max, Bool, cond, ◌&&◌, List, [], ◌∷◌, length, drop, Some, None, Ok, Err, Option, Result, ◌==◌, nat_le, nat_lt, slice_get, slice_index, if◌then◌else◌}
+use Rattle.std.specs.Prelude.{ℕ, suc, ◌+◌, ◌-◌, ◌*◌, max, Bool, cond, ◌&&◌, List, [], ◌∷◌, length, drop, Some, None, Ok, Err, Option, Result, ◌==◌, nat_le, nat_lt, slice_get, if◌then◌else◌}
 
 -- what a part reads as: its value and the place behind it, or the place that is illegal
 abbrev pub Reading : Type 0 → Type 0
@@ -73,18 +73,9 @@ picked_at word at far None = Err (at + far)
 unfoldable pub word_at : {A : Type 0} → (A → List ℕ) → List A → List ℕ → ℕ → Reading A
 word_at word all line at = picked_at word at (reach word all (drop at line)) (picked word all (drop at line))
 
--- a comma: the place behind it
-abbrev pub comma_at : List ℕ → ℕ → Result ℕ ℕ
-comma_at line at = cond (slice_index line at == 44) (Ok (at + 1)) (Err at)
-
--- one word of a table behind a comma that was read
-abbrev pub field_from : {A : Type 0} → (A → List ℕ) → List A → List ℕ → Result ℕ ℕ → Reading A
-field_from word all line (Ok n) = word_at word all line n
-field_from word all line (Err place) = Err place
-
 -- a comma and one word of a table
 unfoldable pub field_at : {A : Type 0} → (A → List ℕ) → List A → List ℕ → ℕ → Reading A
-field_at word all line at = field_from word all line (comma_at line at)
+field_at word all line at = and_then (this_at 44 line at) (λ u n. word_at word all line n)
 
 -- a byte that is a decimal digit
 abbrev pub digit : ℕ → Bool
@@ -98,23 +89,9 @@ goes_on limit value c = digit c && (nat_lt 0 value && nat_le (value * 10 + (c - 
 abbrev pub pushed : ℕ → ℕ → ℕ → Option ℕ
 pushed limit value c = cond (goes_on limit value c) (Some (value * 10 + (c - 48))) None
 
--- the digits that go on a number of this value, and its comma
-abbrev pub digits_from : ℕ → ℕ → List ℕ → ℕ → Reading ℕ
-digits_from limit value [] at = Err at
-digits_from limit value (c ∷ cs) at = cond (goes_on limit value c) (digits_from limit (value * 10 + (c - 48)) cs (at + 1)) (cond (c == 44) (Ok (value, at + 1)) (Err at))
-
 -- the number that begins with the byte c, where one may begin so
 abbrev pub opened : ℕ → ℕ → Option ℕ
 opened limit c = cond (digit c && nat_le (c - 48) limit) (Some (c - 48)) None
-
--- a number at the front of what is left of the line
-abbrev pub number_from : ℕ → List ℕ → ℕ → Reading ℕ
-number_from limit [] at = Err at
-number_from limit (c ∷ cs) at = cond (digit c && nat_le (c - 48) limit) (digits_from limit (c - 48) cs (at + 1)) (Err at)
-
--- a decimal number, with no leading zero and within the limit, and its comma
-unfoldable pub number_at : ℕ → List ℕ → ℕ → Reading ℕ
-number_at limit line at = number_from limit (drop at line) at
 
 -- these of a byte, if there is one
 abbrev pub opened_by : ℕ → Option ℕ → Option ℕ
@@ -136,8 +113,12 @@ decimal_from limit [] at = Err at
 decimal_from limit (c ∷ cs) at = cond (digit c && nat_le (c - 48) limit) (Ok (digits_up limit (c - 48) cs (at + 1))) (Err at)
 
 -- a decimal number, with no leading zero and within the limit; it ends where no further digit may follow
-unfoldable pub decimal_at : ℕ → List ℕ → ℕ → Reading ℕ
+abbrev pub decimal_at : ℕ → List ℕ → ℕ → Reading ℕ
 decimal_at limit line at = decimal_from limit (drop at line) at
+
+-- such a number, and its comma
+unfoldable pub number_at : ℕ → List ℕ → ℕ → Reading ℕ
+number_at limit line at = and_then (decimal_at limit line at) (λ v n. and_then (this_at 44 line n) (λ u m. Ok (v, m)))
 
 -- the value of a hexadecimal digit, '0' to '9' and 'A' to 'F'
 abbrev pub hex_value : ℕ → Option ℕ

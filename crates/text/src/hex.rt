@@ -11,6 +11,7 @@ struct HexByte(u8);
 impl fmt::Display for HexByte {
     ghost output = { λ byte. Some (hex_byte byte.0) };
 
+    #[tactic(auto, using(std::proofs::lemmas::Fmt::hex_byte))]
     fn fmt<W: fmt::Write>(&self, f: &mut fmt::Formatter<W>) -> fmt::Result {
         let byte = self.0;
         write!(f, "{byte:02X}")

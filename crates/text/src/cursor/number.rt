@@ -47,6 +47,7 @@ impl Cursor<'_> {
     }
 
     /// A decimal number of at most this limit, with no 0 in front of other digits. It ends where no further digit may follow.
+    #[tactic(auto, using(crate::proofs::Loops::decimal_steps))]
     pub fn decimal(&mut self, limit: u64) -> Result<u64, Illegal>
         ensures reads { Reads (decimal_at limit) self.old self.new result }
         ensures within { IfOk result (λ n. n ≤ limit) }
@@ -63,6 +64,7 @@ impl Cursor<'_> {
     }
 
     /// Such a number, and the comma behind it.
+    #[tactic(auto, unfolding(crate::specs::Parts::number_at))]
     pub fn number(&mut self, limit: u64) -> Result<u64, Illegal>
         ensures { Reads (number_at limit) self.old self.new result }
     {

@@ -16,6 +16,7 @@ fn alike(text: &[u8], word: &[u8]) -> usize
 }
 
 /// The first of these values whose word the text begins with, or how many bytes it begins with alike with one of their words at most.
+#[tactic(auto, using(crate::proofs::Loops::pick_steps))]
 fn pick<T: Table>(values: &[T::Value], text: &[u8]) -> Result<T::Value, usize>
     ensures value { result ≡ picked_or_reach T.word values.now text.now }
     ensures within { MatchResult result (λ a. length (T.word a) ≤ length text.now) (λ far. far ≤ length text.now) }
@@ -27,15 +28,14 @@ fn pick<T: Table>(values: &[T::Value], text: &[u8]) -> Result<T::Value, usize>
         if count == word.len() {
             return Ok(*value);
         }
-        if count > far {
-            far = count;
-        }
+        far = far.max(count);
     }
     Err(far)
 }
 
 impl Cursor<'_> {
     /// One word of a table.
+    #[tactic(auto, using(crate::proofs::Loops::word_steps))]
     pub fn word<T: Table>(&mut self) -> Result<T::Value, Illegal>
         ensures { Reads (word_at T.word T.values) self.old self.new result }
     {
@@ -51,6 +51,7 @@ impl Cursor<'_> {
     }
 
     /// A comma and one word of a table.
+    #[tactic(auto, unfolding(crate::specs::Parts::field_at))]
     pub fn field<T: Table>(&mut self) -> Result<T::Value, Illegal>
         ensures { Reads (field_at T.word T.values) self.old self.new result }
     {

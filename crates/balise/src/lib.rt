@@ -11,4 +11,4 @@ pub use code::{Code, Digit, NotADigit};
 pub use faults::{FrameFault, HeaderFault, PacketFault};
 pub use header::Header;
 pub use packet::{Direction, NoDirection, Tbl1Packet};
-pub use reception::Reception;
+pub use reception::{KeptReception, LONG, Reception, SHORT};

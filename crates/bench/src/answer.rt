@@ -4,13 +4,12 @@ ghost use Rattle.bench.specs.Answers.{heard_answer, memory_after};
 ghost use Rattle.bench.specs.Printed.{answer_text};
 
 use crate::printed::{Gathered, OrMark, Reading};
-use balise::Code;
+use balise::{Code, SHORT};
 use group::{GroupId, Heard, Memory, OpenGroup};
 use std::fmt;
 use std::fmt::Formatter;
 use telegram::Telegram;
 use text::Hex;
-use writer::SHORT;
 
 /// The answer to a line that is not refused.
 #[derive(Clone, Copy)]

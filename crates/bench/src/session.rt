@@ -7,12 +7,13 @@ ghost use Rattle.bench.specs.Answers.{memory_left, read_by, answer_of, written_a
 use crate::answer::Answer;
 use crate::command::Command;
 use crate::reception::Handed;
+use balise::SHORT;
 use console::Answerer;
 use group::Memory;
 use refusal::Refusal;
 use std::fmt;
 use std::fmt::Write;
-use writer::{Draft, SHORT};
+use writer::Draft;
 
 /// The bench at work.
 #[derive(Drop)]

@@ -12,7 +12,7 @@ use Rattle.cab.specs.declared.event.Pulse.{Pulse}
 use Rattle.cab.specs.declared.event.Pulse.TheVariants.{Restrictive, Clear}
 
 -- of what kind an event is
-abbrev pub kind_of : Event → Kind
+abbrev pub kind_of : {T : Type 0} → Event T → Kind
 kind_of event.Tick = kind.Tick
 kind_of (event.Speed v) = kind.Speed
 kind_of (event.Pulse p) = kind.Pulse

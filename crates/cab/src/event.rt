@@ -2,7 +2,6 @@
 ghost use Rattle.std.specs.Prelude.{◌≡◌, Some};
 ghost use Rattle.cab.specs.Events.{kind_of, pulse_text, lever_text, button_text};
 
-use balise::Reception;
 use std::fmt;
 
 /// What the crocodile's brush feels.
@@ -37,9 +36,9 @@ pub enum Button {
     Blr,
 }
 
-/// What happens. A telegram's bytes stay the caller's.
+/// What happens, with a telegram as it is held: lent by the caller, or kept.
 #[derive(Clone, Copy, PartialEq, Eq, Debug)]
-pub enum Event<'a> {
+pub enum Event<T> {
     /// Time goes on.
     Tick,
     /// The speed in whole km/h, `None` where it is lost.
@@ -48,7 +47,7 @@ pub enum Event<'a> {
     Lever(Lever),
     Press(Button),
     Release(Button),
-    Telegram(Reception<'a>),
+    Telegram(T),
 }
 
 /// Of what kind an event is.
@@ -62,7 +61,7 @@ pub enum Kind {
     Telegram,
 }
 
-impl Event<'_> {
+impl<T> Event<T> {
     /// The event's kind.
     pub fn kind(&self) -> Kind
         ensures { result ≡ kind_of self.now }

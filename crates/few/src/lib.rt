@@ -12,6 +12,7 @@ mod items;
 pub struct NoRoom;
 
 /// At most `N` items, in the order in which they came.
+// no derived `==` and `Debug`: they would compare and print the slots that hold no item; `as_slice` is what is compared and printed
 pub struct Few<T, const N: usize> {
     slots: [T; N],
     len: usize,

@@ -12,6 +12,10 @@ refused r p l = record { reason = r; place = p; layer = l }
 
 -- the number under which a call is refused for a reason
 abbrev pub number_of : Reason → ℕ
+number_of reason.Time = 1
+number_of reason.Setting = 2
+number_of reason.Speed = 3
+number_of reason.Control = 4
 number_of reason.Frame = 5
 number_of reason.Crc = 6
 number_of reason.Header = 7

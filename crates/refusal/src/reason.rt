@@ -5,6 +5,14 @@ ghost use Rattle.refusal.specs.Refusals.{number_of};
 /// Why a call is refused. Each reason has the number under which it is refused.
 #[derive(Clone, Copy, PartialEq, Eq, Debug)]
 pub enum Reason {
+    /// A time is out of range, or before that of the last accepted call.
+    Time = 1,
+    /// A setting is out of range.
+    Setting = 2,
+    /// A speed is above the highest.
+    Speed = 3,
+    /// The lever moved by two steps, or a button is already so.
+    Control = 4,
     /// A telegram has a wrong length, or a closing bit that is not zero.
     Frame = 5,
     /// The antenna found the CRC bad.

@@ -2,6 +2,8 @@
 ghost use Rattle.std.specs.Prelude.{◌≡◌};
 ghost use Rattle.telegram.specs.Forms.{form_of};
 
+use balise::{LONG, SHORT};
+
 /// How many bits of a telegram carry what it says, and how many close its last byte.
 #[derive(Clone, Copy, PartialEq, Eq, Debug)]
 pub struct Form {
@@ -15,11 +17,11 @@ impl Form {
         ensures { result ≡ form_of bytes }
     {
         match bytes {
-            27 => Some(Form {
+            SHORT => Some(Form {
                 bits: 210,
                 closing: 6,
             }),
-            104 => Some(Form {
+            LONG => Some(Form {
                 bits: 830,
                 closing: 2,
             }),

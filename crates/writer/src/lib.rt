@@ -8,4 +8,4 @@ mod writing;
 
 pub use draft::Draft;
 pub use faults::WriteFault;
-pub use writing::{SHORT, worked_example, write};
+pub use writing::{worked_example, write};

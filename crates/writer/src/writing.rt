@@ -7,10 +7,8 @@ ghost use Rattle.writer.specs.Writing.{written, write_answer, buffer_after};
 use crate::draft::Draft;
 use crate::faults::WriteFault;
 use crate::layout::{Field, laid_byte};
+use balise::SHORT;
 use std::array;
-
-/// The bytes of a short telegram.
-pub const SHORT: usize = 27;
 
 /// The telegram of these fields.
 fn laid(fields: &[Field]) -> [u8; SHORT]

@@ -3,7 +3,8 @@ ghost use Rattle.std.specs.Prelude.{◌≡◌, ◌≤◌, IfOk, slice_index};
 ghost use Rattle.bench.specs.Commands.{letter_of};
 ghost use Rattle.bench.specs.Lines.{InLine, Keeps};
 
-use crate::reception::Handed;
+use crate::handed::Handed;
+use balise::{KeptReception, LONG};
 use text::{Cursor, Illegal};
 use writer::Draft;
 
@@ -52,46 +53,22 @@ fn field(cursor: &mut Cursor<'_>, limit: u16) -> Result<u16, Illegal>
     Ok(number as u16)
 }
 
-/// The eleven numbers that stand behind `W`.
-fn numbers(cursor: &mut Cursor<'_>) -> Result<[u16; 11], Illegal>
-    ensures { Keeps cursor.old cursor.new result }
-{
-    let mut numbers = [0; 11];
-    for number in numbers.iter_mut() {
-        *number = field(cursor, u16::MAX)?;
-    }
-    Ok(numbers)
-}
-
-/// What stands behind `W`.
+/// What stands behind `W`: eleven numbers.
 fn draft(cursor: &mut Cursor<'_>) -> Result<Draft, Illegal>
     ensures { Keeps cursor.old cursor.new result }
 {
-    let [
-        version,
-        position,
-        total,
-        duplicate,
-        counter,
-        country,
-        group,
-        link,
-        direction,
-        first,
-        second,
-    ] = numbers(cursor)?;
     Ok(Draft {
-        version,
-        position,
-        total,
-        duplicate,
-        counter,
-        country,
-        group,
-        link,
-        direction,
-        first,
-        second,
+        version: field(cursor, u16::MAX)?,
+        position: field(cursor, u16::MAX)?,
+        total: field(cursor, u16::MAX)?,
+        duplicate: field(cursor, u16::MAX)?,
+        counter: field(cursor, u16::MAX)?,
+        country: field(cursor, u16::MAX)?,
+        group: field(cursor, u16::MAX)?,
+        link: field(cursor, u16::MAX)?,
+        direction: field(cursor, u16::MAX)?,
+        first: field(cursor, u16::MAX)?,
+        second: field(cursor, u16::MAX)?,
     })
 }
 
@@ -103,10 +80,13 @@ fn handed(cursor: &mut Cursor<'_>) -> Result<Handed, Illegal>
     let plug = field(cursor, MOST_PLUG)?;
     let crc = field(cursor, 1)?;
     cursor.expect(b',')?;
-    let bytes = cursor.hex_pairs::<104>()?;
+    let bytes = cursor.hex_pairs::<LONG>()?;
     Ok(Handed {
         plug: plug as u8,
-        crc_good: crc == 1,
-        bytes,
+        kept: KeptReception {
+            bytes,
+            // as a number: the format has 0 and 1 among its numbers
+            crc_good: crc == 1,
+        },
     })
 }

@@ -3,8 +3,8 @@
 
 mod answer;
 mod command;
+mod handed;
 mod printed;
-mod reception;
 mod session;
 
 use session::Session;

@@ -6,7 +6,7 @@ ghost use Rattle.bench.specs.Answers.{memory_left, read_by, answer_of, written_a
 
 use crate::answer::Answer;
 use crate::command::Command;
-use crate::reception::Handed;
+use crate::handed::Handed;
 use balise::SHORT;
 use console::Answerer;
 use group::Memory;
@@ -70,7 +70,7 @@ impl Session {
         ensures { self.new.memory ≡ memory_left result self.old.memory }
     {
         let before = self.memory;
-        let heard = before.receive(handed.reception(), handed.plug)?;
+        let heard = before.receive(handed.kept.lend(), handed.plug)?;
         self.memory = heard.memory;
         Ok(Answer::heard(before, heard))
     }
@@ -87,8 +87,8 @@ fn written(draft: Draft) -> Result<Answer, Refusal>
 
 /// The answer to `R`.
 fn read(handed: &Handed) -> Result<Answer, Refusal>
-    ensures { read_by result ≡ Some (answer_of (reading_of (items handed.now.bytes) handed.now.crc_good handed.now.plug)) }
+    ensures { read_by result ≡ Some (answer_of (reading_of (items handed.now.kept.bytes) handed.now.kept.crc_good handed.now.plug)) }
 {
-    let telegram = telegram::read(handed.reception(), handed.plug)?;
+    let telegram = telegram::read(handed.kept.lend(), handed.plug)?;
     Ok(Answer::Reading(telegram))
 }

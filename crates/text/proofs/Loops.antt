@@ -109,4 +109,4 @@ module _ {A : Type 0} (word : A → List ℕ) (all : List A) (line : List ℕ) (
 
 pub ruleset word_steps = (word_picked, word_missed, take_rest)
 
-pub ruleset pick_steps = (far_enough, chooses_all, chooses_this, chooses_later, chooses_none)
+pub ruleset pick_steps = (chooses_all, chooses_none)

@@ -27,6 +27,7 @@ impl<'a> BitReader<'a> {
         BitReader { bytes, place }
     }
 
+    // a bound and no invariant: who reads on knows his own bound, and none holds after every read
     /// The next field of `width` bits, the first bit the highest.
     #[tactic(auto, using(crate::proofs::Fields::field_steps))]
     pub fn take(&mut self, width: usize) -> u16
@@ -35,7 +36,7 @@ impl<'a> BitReader<'a> {
         ensures place { self.new.place ≡ self.old.place + width }
         ensures value { result ≡ field self.old.bytes.now self.old.place width }
     {
-        // no fold: it would ask that `value * 2` fits whatever it is called with, not only for the bits that came
+        // no fold: it was tried, and the proof of its value did not close
         let mut value = 0u16;
         for k in 0..width {
             value = value * 2 + u16::from(bit(self.bytes, self.place + k));

@@ -13,6 +13,7 @@ pub struct Illegal {
 #[derive(Clone, Copy, PartialEq, Eq, Debug)]
 pub enum TextFault {
     /// The line is no legal line.
+    // its place, and no `Illegal`: the laws of lines speak of this case
     Illegal {
         /// The first byte such that the line up to and including it begins no legal line, or the line's length where there is none.
         place: usize,

@@ -5,6 +5,7 @@ ghost use Rattle.text.specs.Hexes.{hex_byte, hex_text};
 use std::fmt;
 
 /// A byte as it is written in a line.
+// a type of its own, so that its text is stated once, and the loop's invariant stays short
 #[derive(Clone, Copy, PartialEq, Eq, Debug)]
 struct HexByte(u8);
 

@@ -48,6 +48,7 @@ impl Draft {
         if self.position > self.total {
             return Err(WriteFault::Position);
         }
+        // by numbers: `try_from` was tried in place of these two, and the clause was not proved
         if self.direction == 3 {
             return Err(WriteFault::Direction);
         }

@@ -97,7 +97,7 @@ pub(crate) fn laid_byte(fields: &[Field], place: usize) -> u8
     requires { place ≤ 8192 }
     ensures { result ≡ number (laid_bit fields.now) place 8 }
 {
-    // no fold: it would ask that `byte * 2` fits whatever it is called with, not only for the bits that came
+    // no fold, as in the reader's `take`; and not one function with it: what gives the bits would be a closure, with a `requires` of its own
     let mut byte = 0u16;
     for k in 0..8 {
         byte = byte * 2 + u16::from(laid_bit(fields, place + k));

@@ -27,9 +27,7 @@ impl Cursor<'_> {
         ensures reads { Reads hex_digit_at self.old self.new result }
         ensures small { IfOk result (λ v. v < 16) }
     {
-        let Some(value) = self.peek().and_then(hex_value) else {
-            return Err(self.illegal());
-        };
+        let value = self.peek().and_then(hex_value).ok_or(self.illegal())?;
         self.place += 1;
         Ok(value)
     }

@@ -52,9 +52,7 @@ impl Cursor<'_> {
         ensures reads { Reads (decimal_at limit) self.old self.new result }
         ensures within { IfOk result (λ n. n ≤ limit) }
     {
-        let Some(mut value) = self.begun(limit) else {
-            return Err(self.illegal());
-        };
+        let mut value = self.begun(limit).ok_or(self.illegal())?;
         self.place += 1;
         while let Some(more) = self.gone_on(value, limit) {
             value = more;

@@ -40,9 +40,7 @@ impl<'a> Cursor<'a> {
     pub fn byte(&mut self) -> Result<u8, Illegal>
         ensures { Reads byte_at self.old self.new result }
     {
-        let Some(byte) = self.peek() else {
-            return Err(self.illegal());
-        };
+        let byte = self.peek().ok_or(self.illegal())?;
         self.place += 1;
         Ok(byte)
     }

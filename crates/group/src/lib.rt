@@ -6,4 +6,4 @@ mod memory;
 mod receiving;
 
 pub use codes::{Codes, Travel};
-pub use memory::{GroupId, Heard, Memory, OpenGroup};
+pub use memory::{GroupId, Heard, Memory, Message, OpenGroup};

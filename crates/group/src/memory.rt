@@ -39,6 +39,13 @@ pub enum Memory {
     Closed(GroupId),
 }
 
+/// What a telegram says to a group: its header, and its TBL1+ packets in their order.
+#[derive(Clone, Copy, PartialEq, Eq, Debug)]
+pub struct Message<'a> {
+    pub header: Header,
+    pub packets: &'a [Tbl1Packet],
+}
+
 /// What hearing a telegram leaves.
 #[derive(Clone, Copy, PartialEq, Eq, Debug)]
 pub struct Heard {
@@ -71,9 +78,10 @@ impl fmt::Display for GroupId {
 
 impl OpenGroup {
     /// The group of its first telegram.
-    fn begin(header: Header, packets: &[Tbl1Packet]) -> OpenGroup
-        ensures { result ≡ begun header packets.now }
+    fn begin(message: Message<'_>) -> OpenGroup
+        ensures { result ≡ begun message.entry.header message.entry.packets.now }
     {
+        let Message { header, packets } = message;
         OpenGroup {
             id: GroupId::from(header),
             total: header.total,
@@ -84,23 +92,23 @@ impl OpenGroup {
     }
 
     /// The group with a further telegram of it: its direction settled, the codes of the packets stored.
-    fn gather(self, header: Header, packets: &[Tbl1Packet]) -> OpenGroup
-        ensures { result ≡ gathered self header packets.now }
+    fn gather(self, message: Message<'_>) -> OpenGroup
+        ensures { result ≡ gathered self message.entry.header message.entry.packets.now }
     {
         OpenGroup {
-            travel: Travel::settled(self.travel, self.first, header.position),
-            codes: self.codes.store(packets),
+            travel: Travel::settled(self.travel, self.first, message.header.position),
+            codes: self.codes.store(message.packets),
             ..self
         }
     }
 
     /// A further telegram of the group: it closes the group where the direction says so, with the code stored for that direction.
-    fn go_on(self, header: Header, packets: &[Tbl1Packet]) -> Heard
-        ensures { result ≡ gone_on self header packets.now }
+    fn go_on(self, message: Message<'_>) -> Heard
+        ensures { result ≡ gone_on self message.entry.header message.entry.packets.now }
     {
-        let group = self.gather(header, packets);
+        let group = self.gather(message);
         match group.travel {
-            Some(travel) if travel.closes(header) => Heard {
+            Some(travel) if travel.closes(message.header) => Heard {
                 memory: Memory::Closed(group.id),
                 code: group.codes.of(travel),
             },
@@ -145,25 +153,24 @@ impl Memory {
     }
 
     /// What a telegram leaves that no question refused: the memory, and the code that is acted on.
-    // Not a telegram::Telegram, which holds 16 packets at most: this is promised of any number of packets.
-    pub fn heard(self, header: Header, packets: &[Tbl1Packet]) -> Heard
-        ensures value { result ≡ heard self header packets.now }
-        ensures run_goes_on { RunGoesOn self (Happening.telegram (telegram_of header packets.now)) result.memory }
-        ensures gives_the_last_stored { GivesTheLastStored self (telegram_of header packets.now) result }
-        ensures tells_the_visit { TellsTheVisit self (telegram_of header packets.now) result }
-        ensures acts_once { ActsOnce self (telegram_of header packets.now) result }
-        ensures stays_closed { StaysClosed self (telegram_of header packets.now) result }
-        ensures direction_stays { DirectionStays self (telegram_of header packets.now) result }
+    pub fn heard(self, message: Message<'_>) -> Heard
+        ensures value { result ≡ heard self message.entry.header message.entry.packets.now }
+        ensures run_goes_on { RunGoesOn self (Happening.telegram (telegram_of message.entry.header message.entry.packets.now)) result.memory }
+        ensures gives_the_last_stored { GivesTheLastStored self (telegram_of message.entry.header message.entry.packets.now) result }
+        ensures tells_the_visit { TellsTheVisit self (telegram_of message.entry.header message.entry.packets.now) result }
+        ensures acts_once { ActsOnce self (telegram_of message.entry.header message.entry.packets.now) result }
+        ensures stays_closed { StaysClosed self (telegram_of message.entry.header message.entry.packets.now) result }
+        ensures direction_stays { DirectionStays self (telegram_of message.entry.header message.entry.packets.now) result }
     {
-        let passed = GroupId::from(header);
+        let passed = GroupId::from(message.header);
         match self {
             Memory::Closed(id) if id == passed => Heard {
                 memory: self,
                 code: None,
             },
-            Memory::Open(group) if group.id == passed => group.go_on(header, packets),
+            Memory::Open(group) if group.id == passed => group.go_on(message),
             _ => Heard {
-                memory: Memory::Open(OpenGroup::begin(header, packets)),
+                memory: Memory::Open(OpenGroup::begin(message)),
                 code: None,
             },
         }

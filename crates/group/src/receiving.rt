@@ -3,7 +3,7 @@ ghost use Rattle.std.specs.Prelude.{◌≡◌};
 ghost use Rattle.telegram.specs.Telegrams.{accepted_of};
 ghost use Rattle.group.specs.Receiving.{heard_opened, received};
 
-use crate::memory::{Heard, Memory};
+use crate::memory::{Heard, Memory, Message};
 use balise::{FrameFault, HeaderFault, Reception};
 use telegram::Frame;
 
@@ -14,7 +14,10 @@ fn hear_frame(memory: Memory, frame: Frame<'_>, plug: u8) -> Result<Heard, Heade
     let telegram = frame.accept(plug)?;
     let header = memory.asked(telegram.header())?;
     let packets = telegram.packets()?;
-    Ok(memory.heard(header, packets.as_slice()))
+    Ok(memory.heard(Message {
+        header,
+        packets: packets.as_slice(),
+    }))
 }
 
 impl Memory {

@@ -1,12 +1,12 @@
 -- What the values of the code mean.
 use Rattle.std.specs.Prelude.{ℕ, ◌+◌, ◌*◌, true, false, List, [], ◌∷◌, Some, None, Option, Result}
+use Rattle.balise.specs.declared.reception.KeptReception.{KeptReception}
+use Rattle.balise.specs.declared.reception.Reception.{Reception}
 use Rattle.cab.specs.declared.event.Event.{Event}
 use Rattle.cab.specs.declared.event.Event.TheVariants as event
 use Rattle.few.specs.Items.{items}
 use Rattle.text.specs.Cursors.{result_as}
 use Rattle.events.specs.declared.line.EventLine.{EventLine}
-use Rattle.events.specs.declared.line.What.{What}
-use Rattle.events.specs.declared.line.What.TheVariants as what
 use Rattle.events.specs.Said.{Happening, tick, speed, pulse, lever, button, telegram, Written, lost, digits, Said}
 
 -- the number that these digits go on
@@ -28,25 +28,23 @@ meant (lever l) = lever l
 meant (button b pressed) = button b pressed
 meant (telegram crc bytes) = telegram crc bytes
 
+-- an event, of whose telegram this is told
+abbrev pub event_told : {T : Type 0} → (T → Happening (Option ℕ)) → Event T → Happening (Option ℕ)
+event_told told event.Tick = tick
+event_told told (event.Speed v) = speed v
+event_told told (event.Pulse p) = pulse p
+event_told told (event.Lever l) = lever l
+event_told told (event.Press b) = button b true
+event_told told (event.Release b) = button b false
+event_told told (event.Telegram t) = told t
+
 -- an event of the unit
-abbrev pub happened : Event → Happening (Option ℕ)
-happened event.Tick = tick
-happened (event.Speed v) = speed v
-happened (event.Pulse p) = pulse p
-happened (event.Lever l) = lever l
-happened (event.Press b) = button b true
-happened (event.Release b) = button b false
-happened (event.Telegram t) = telegram t.crc_good t.bytes.now
+abbrev pub happened : Event Reception → Happening (Option ℕ)
+happened e = event_told (λ t. telegram t.crc_good t.bytes.now) e
 
 -- what happened, as a line that was read has it
-abbrev pub what_heard : What → Happening (Option ℕ)
-what_heard what.Tick = tick
-what_heard (what.Speed v) = speed v
-what_heard (what.Pulse p) = pulse p
-what_heard (what.Lever l) = lever l
-what_heard (what.Press b) = button b true
-what_heard (what.Release b) = button b false
-what_heard (what.Telegram crc bytes) = telegram crc (items bytes)
+abbrev pub what_heard : Event KeptReception → Happening (Option ℕ)
+what_heard e = event_told (λ t. telegram t.crc_good (items t.bytes)) e
 
 -- a line that was read: what happened
 abbrev pub heard : EventLine → Happening (Option ℕ)

@@ -5,10 +5,11 @@ ghost use Rattle.events.specs.Heard.{meant, line_meant, what_heard, line_result}
 ghost use Rattle.events.specs.Reads.{rest_at, event_at};
 ghost use Rattle.events.specs.Steps.{meaning};
 
-use crate::line::{EventLine, What};
+use crate::line::EventLine;
 use crate::speed::speed;
 use crate::words::{Buttons, CrcWords, Kinds, Levers, Presses, Pulses};
-use cab::Kind;
+use balise::{KeptReception, LONG};
+use cab::{Event, Kind};
 use text::{Cursor, Illegal};
 
 /// The latest time that ten digits write.
@@ -25,37 +26,37 @@ pub(crate) fn event(cursor: &mut Cursor<'_>) -> Result<EventLine, Illegal>
 }
 
 /// What happened, of this kind.
-fn rest(kind: Kind, cursor: &mut Cursor<'_>) -> Result<What, Illegal>
+fn rest(kind: Kind, cursor: &mut Cursor<'_>) -> Result<Event<KeptReception>, Illegal>
     ensures { Reads (meaning meant (rest_at kind)) cursor.old cursor.new (result_as what_heard result) }
 {
     match kind {
-        Kind::Tick => Ok(What::Tick),
-        Kind::Speed => Ok(What::Speed(speed(cursor)?)),
-        Kind::Pulse => Ok(What::Pulse(cursor.word::<Pulses>()?)),
-        Kind::Lever => Ok(What::Lever(cursor.word::<Levers>()?)),
+        Kind::Tick => Ok(Event::Tick),
+        Kind::Speed => Ok(Event::Speed(speed(cursor)?)),
+        Kind::Pulse => Ok(Event::Pulse(cursor.word::<Pulses>()?)),
+        Kind::Lever => Ok(Event::Lever(cursor.word::<Levers>()?)),
         Kind::Button => pressed(cursor),
         Kind::Telegram => telegram(cursor),
     }
 }
 
 /// A button, and whether it is pressed or released.
-fn pressed(cursor: &mut Cursor<'_>) -> Result<What, Illegal>
+fn pressed(cursor: &mut Cursor<'_>) -> Result<Event<KeptReception>, Illegal>
     ensures { Reads (meaning meant (rest_at Button)) cursor.old cursor.new (result_as what_heard result) }
 {
     let button = cursor.word::<Buttons>()?;
     let pressed = cursor.word::<Presses>()?;
     Ok(if pressed {
-        What::Press(button)
+        Event::Press(button)
     } else {
-        What::Release(button)
+        Event::Release(button)
     })
 }
 
 /// A telegram with the antenna's word on its CRC.
-fn telegram(cursor: &mut Cursor<'_>) -> Result<What, Illegal>
+fn telegram(cursor: &mut Cursor<'_>) -> Result<Event<KeptReception>, Illegal>
     ensures { Reads (meaning meant (rest_at Telegram)) cursor.old cursor.new (result_as what_heard result) }
 {
     let crc_good = cursor.word::<CrcWords>()?;
-    let bytes = cursor.hex_pairs::<104>()?;
-    Ok(What::Telegram { crc_good, bytes })
+    let bytes = cursor.hex_pairs::<LONG>()?;
+    Ok(Event::Telegram(KeptReception { bytes, crc_good }))
 }

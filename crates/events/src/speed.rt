@@ -24,14 +24,13 @@ fn digit(cursor: &mut Cursor<'_>) -> Option<u16>
 pub(crate) fn speed(cursor: &mut Cursor<'_>) -> Result<Option<u16>, Illegal>
     ensures { Reads (meaning speed_of speed_at) cursor.old cursor.new result }
 {
+    // by `peek`, not `expect`: where that refuses, its contract does not say that the cursor stays
     if cursor.peek() == Some(b'L') {
         cursor.byte()?;
         return Ok(None);
     }
     // digit by digit: a loop would need an invariant that bounds the value, and says no more
-    let Some(first) = digit(cursor) else {
-        return Err(cursor.illegal());
-    };
+    let first = digit(cursor).ok_or(cursor.illegal())?;
     let Some(second) = digit(cursor) else {
         return Ok(Some(first));
     };

@@ -117,6 +117,7 @@ impl Table for Buttons {
 }
 
 /// Pressed or released.
+// not the strip line's table of flags, which has these words: each line's definitions fix the order of their own values
 pub(crate) struct Presses;
 
 impl Table for Presses {

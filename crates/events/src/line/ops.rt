@@ -1,7 +1,7 @@
 ghost use Rattle.std.specs.Prelude.{◌≡◌};
 ghost use Rattle.events.specs.Heard.{happened, heard};
 
-use super::{EventLine, What};
+use super::EventLine;
 use balise::Reception;
 use cab::Event;
 
@@ -14,20 +14,17 @@ impl EventLine {
     }
 
     /// What happened. A telegram's bytes are lent by the line.
-    pub fn event(&self) -> Event<'_>
+    pub fn event(&self) -> Event<Reception<'_>>
         ensures { happened result ≡ heard self.now }
     {
         match &self.what {
-            What::Tick => Event::Tick,
-            What::Speed(speed) => Event::Speed(*speed),
-            What::Pulse(pulse) => Event::Pulse(*pulse),
-            What::Lever(lever) => Event::Lever(*lever),
-            What::Press(button) => Event::Press(*button),
-            What::Release(button) => Event::Release(*button),
-            What::Telegram { crc_good, bytes } => Event::Telegram(Reception {
-                bytes: bytes.as_slice(),
-                crc_good: *crc_good,
-            }),
+            Event::Tick => Event::Tick,
+            Event::Speed(speed) => Event::Speed(*speed),
+            Event::Pulse(pulse) => Event::Pulse(*pulse),
+            Event::Lever(lever) => Event::Lever(*lever),
+            Event::Press(button) => Event::Press(*button),
+            Event::Release(button) => Event::Release(*button),
+            Event::Telegram(kept) => Event::Telegram(kept.lend()),
         }
     }
 }

@@ -57,8 +57,8 @@ impl fmt::Display for Strip {
     ghost output = { λ strip. Some (strip_text (entry_of strip.0)) };
 
     fn fmt<W: fmt::Write>(&self, f: &mut Formatter<W>) -> fmt::Result {
+        // a buffer, since the writer of strip lines is lent one; there is room: no line is longer
         let mut text = [0; LONGEST];
-        // there is room: no line is longer
         let size = write_strip(self.0, &mut text).unwrap();
         // it is text: each byte is an ASCII character
         f.write_str(str::from_utf8(&text[..size - 1]).unwrap())

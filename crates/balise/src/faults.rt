@@ -7,6 +7,7 @@ ghost use Rattle.balise.specs.declared.faults.HeaderFault.TheVariants.{Packet};
 use refusal::{Layer, Reason, Refusal};
 
 /// What is wrong with a packet, which begins at the bit `at` of its telegram.
+// `at` in each case, and no struct around them: the definitions of a packet's reading name the cases so
 #[derive(Clone, Copy, PartialEq, Eq, Debug)]
 pub enum PacketFault {
     /// Fewer than 8 bits are left where a packet should begin: no packet 255 ended the telegram.

@@ -10,5 +10,5 @@ mod reception;
 pub use code::{Code, Digit, NotADigit};
 pub use faults::{FrameFault, HeaderFault, PacketFault};
 pub use header::Header;
-pub use packet::{Direction, NoDirection, Tbl1Packet};
+pub use packet::{Direction, END, NoDirection, TBL1, TBL1_BITS, Tbl1Packet, USER_PACKET};
 pub use reception::{KeptReception, LONG, Reception, SHORT};

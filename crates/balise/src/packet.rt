@@ -5,6 +5,16 @@ ghost use Rattle.balise.specs.Directions.{DirectionOf, direction_text, packet_te
 use crate::code::Code;
 use std::fmt;
 
+// numbers and no enums: of 256 identities of packets two mean something here, of 512 of users one
+/// NID_PACKET of the packet that ends a telegram.
+pub const END: u16 = 255;
+/// NID_PACKET of the packet that belongs to a user.
+pub const USER_PACKET: u16 = 44;
+/// NID_XUSER of TBL1+.
+pub const TBL1: u16 = 13;
+/// The bits of a TBL1+ packet: the fixed part, NID_XUSER and two digits.
+pub const TBL1_BITS: usize = 48;
+
 /// For which direction of travel a packet holds: Q_DIR.
 #[derive(Clone, Copy, PartialEq, Eq, Debug)]
 pub enum Direction {

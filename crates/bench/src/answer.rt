@@ -12,6 +12,7 @@ use telegram::Telegram;
 use text::Hex;
 
 /// The answer to a line that is not refused.
+// neither `PartialEq` nor `Debug`, as `Few`, which it holds
 #[derive(Clone, Copy)]
 pub enum Answer {
     /// The telegram that was written.

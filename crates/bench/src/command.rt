@@ -11,6 +11,7 @@ use writer::Draft;
 /// The highest plug value.
 const MOST_PLUG: u16 = 127;
 
+// neither `PartialEq` nor `Debug`, as `Few`, which it holds
 #[derive(Clone, Copy)]
 pub enum Command {
     /// W: write a telegram.
@@ -85,7 +86,7 @@ fn handed(cursor: &mut Cursor<'_>) -> Result<Handed, Illegal>
         plug: plug as u8,
         kept: KeptReception {
             bytes,
-            // as a number: the format has 0 and 1 among its numbers
+            // by `field`, as a number of at most 1, which is the byte 0 or 1: a table for this one place would be longer
             crc_good: crc == 1,
         },
     })

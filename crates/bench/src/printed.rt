@@ -9,19 +9,20 @@ use std::fmt::Formatter;
 use telegram::Telegram;
 
 /// A value as it is printed, or the mark that stands where there is none.
-#[derive(Clone, Copy)]
+#[derive(Clone, Copy, PartialEq, Eq, Debug)]
 pub struct OrMark<T>(pub Option<T>, pub &'static str);
 
 /// What a telegram reads as.
+// neither `PartialEq` nor `Debug`, as `Telegram`
 #[derive(Clone, Copy)]
 pub struct Reading(pub Telegram);
 
 /// A comma in front of each packet.
-#[derive(Clone, Copy)]
+#[derive(Clone, Copy, PartialEq, Eq, Debug)]
 struct Packets<'a>(&'a [Tbl1Packet]);
 
 /// An open group.
-#[derive(Clone, Copy)]
+#[derive(Clone, Copy, PartialEq, Eq, Debug)]
 pub struct Gathered(pub OpenGroup);
 
 impl<T: fmt::Display> fmt::Display for OrMark<T> {

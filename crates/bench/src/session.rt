@@ -22,6 +22,7 @@ pub struct Session {
 }
 
 impl Answerer for Session {
+    // as in `linebench`: one body for both would want two types of answers beside the trait's method
     fn answer(&mut self, line: &[u8], answers: &mut String) -> fmt::Result {
         match self.reply(line) {
             Ok(answer) => write!(answers, "{answer}")?,

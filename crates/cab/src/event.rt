@@ -61,6 +61,18 @@ pub enum Kind {
     Telegram,
 }
 
+impl Kind {
+    /// The kinds in the order in which lines have them.
+    pub const ALL: [Kind; 6] = [
+        Kind::Tick,
+        Kind::Speed,
+        Kind::Pulse,
+        Kind::Lever,
+        Kind::Button,
+        Kind::Telegram,
+    ];
+}
+
 impl<T> Event<T> {
     /// The event's kind.
     pub fn kind(&self) -> Kind

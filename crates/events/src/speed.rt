@@ -12,6 +12,7 @@ fn digit(cursor: &mut Cursor<'_>) -> Option<u16>
     ensures reads { Reads digit_at cursor.old cursor.new (Ok result) }
     ensures small { IfSome result (λ d. d < 10) }
 {
+    // by hand, as text reads its numbers: a function for one subtraction would say no more
     if !cursor.peek()?.is_ascii_digit() {
         return None;
     }

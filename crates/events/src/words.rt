@@ -27,14 +27,7 @@ impl Table for Kinds {
     }
 
     fn all() -> &'static [Kind] {
-        &[
-            Kind::Tick,
-            Kind::Speed,
-            Kind::Pulse,
-            Kind::Lever,
-            Kind::Button,
-            Kind::Telegram,
-        ]
+        &Kind::ALL
     }
 }
 

@@ -8,8 +8,8 @@ use crate::bits::BitReader;
 use crate::form::Form;
 use crate::header::{ask_header, read_header};
 use crate::list::{BLANK, PacketList};
-use crate::packet::{Found, TBL1_BITS, read_packet};
-use balise::{FrameFault, Header, HeaderFault, PacketFault, Reception};
+use crate::packet::{Found, read_packet};
+use balise::{FrameFault, Header, HeaderFault, PacketFault, Reception, TBL1_BITS};
 
 /// A telegram whose length, closing bits and CRC are right.
 #[derive(Clone, Copy, PartialEq, Eq, Debug)]

@@ -3,7 +3,7 @@ ghost use Rattle.std.specs.Prelude.{◌≡◌, ◌+◌, ◌%◌, ◌≤◌};
 ghost use Rattle.telegram.specs.Packets.{packet_in, user_packet_in, Lasts, Within};
 
 use crate::bits::BitReader;
-use balise::{Code, Digit, Direction, PacketFault, Tbl1Packet};
+use balise::{Code, Digit, Direction, END, PacketFault, TBL1, TBL1_BITS, Tbl1Packet, USER_PACKET};
 
 /// What stands at a place where a packet begins.
 #[derive(Clone, Copy, PartialEq, Eq, Debug)]
@@ -15,21 +15,13 @@ pub enum Found {
     Tbl1 { packet: Tbl1Packet },
 }
 
-// numbers and no enums: of 256 identities of packets two mean something here, of 512 of users one
-/// NID_PACKET of the packet that ends a telegram.
-const END: u16 = 255;
-/// NID_PACKET of the packet that belongs to a user.
-const USER_PACKET: u16 = 44;
-/// NID_XUSER of TBL1+.
-const TBL1: u16 = 13;
 /// NID_PACKET, Q_DIR and L_PACKET.
 const FIXED_BITS: usize = 23;
 /// The fixed part and NID_XUSER.
 const USER_BITS: usize = 32;
-/// A TBL1+ packet: the fixed part, NID_XUSER and two digits.
-pub const TBL1_BITS: usize = 48;
 
 /// The packet that begins where `reader` stands, which holds the telegram from the packet's first byte on. In the telegram, whose bits end at `end`, the packet begins at the bit `at`.
+// the bound on the reader's place is its caller's, as in `take`
 pub fn read_packet(mut reader: BitReader<'_>, at: usize, end: usize) -> Result<Found, PacketFault>
     requires { (reader.place ≡ at % 8) × (at ≤ 830) }
     ensures value { result ≡ packet_in reader.entry.bytes.now reader.entry.place at end }
@@ -57,6 +49,7 @@ pub fn read_packet(mut reader: BitReader<'_>, at: usize, end: usize) -> Result<F
 }
 
 /// Packet 44, whose fixed part has been read.
+// and so is this one
 fn read_user_packet(
     mut reader: BitReader<'_>,
     direction: u16,

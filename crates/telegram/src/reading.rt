@@ -7,6 +7,7 @@ use crate::list::PacketList;
 use balise::{FrameFault, Header, HeaderFault, Reception};
 
 /// What a telegram reads as.
+// neither `PartialEq` nor `Debug`, as `Few`, which it holds
 #[derive(Clone, Copy)]
 pub struct Telegram {
     pub header: Header,

@@ -4,6 +4,7 @@ ghost use Rattle.telegram.specs.Bits.{number};
 ghost use Rattle.writer.specs.Layouts.{in_bits, layout, fits, all_fit, laid_bit};
 
 use crate::draft::Draft;
+use balise::{END, TBL1, TBL1_BITS, USER_PACKET};
 
 /// A value, and the bits that it takes.
 #[derive(Clone, Copy, PartialEq, Eq, Debug)]
@@ -36,13 +37,13 @@ impl Draft {
             in_bits(self.country, 10),
             in_bits(self.group, 14),
             in_bits(self.link, 1),
-            in_bits(44, 8),
+            in_bits(USER_PACKET, 8),
             in_bits(self.direction, 2),
-            in_bits(48, 13),
-            in_bits(13, 9),
+            in_bits(TBL1_BITS as u16, 13),
+            in_bits(TBL1, 9),
             in_bits(self.first, 8),
             in_bits(self.second, 8),
-            in_bits(255, 8),
+            in_bits(END, 8),
         ]
     }
 }

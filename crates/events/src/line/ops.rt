@@ -17,6 +17,7 @@ impl EventLine {
     pub fn event(&self) -> Event<Reception<'_>>
         ensures { happened result ≡ heard self.now }
     {
+        // by hand, and no `Event::map`: it would take a closure, with a `requires` of its own
         match &self.what {
             Event::Tick => Event::Tick,
             Event::Speed(speed) => Event::Speed(*speed),

@@ -33,6 +33,7 @@ impl ContactPair {
         ContactPair { first, second }
     }
 
+    // no `From`, as above
     /// The contacts for the host to set: whether the first is closed, and whether the second is.
     pub fn contacts(&self) -> (bool, bool)
         ensures { (result.0 ≡ self.now.first) × (result.1 ≡ self.now.second) }

@@ -26,7 +26,7 @@ impl OutputWord {
     }
 
     /// The word for the host to put out.
-    // no `From`: it would use up the valve, which is no `Copy`, so that no second one goes on fed
+    // no `From`: by value it would use up the valve, which is no `Copy`, so that no second one goes on fed; by reference `u32::from(&valve)` says less than `word`
     pub fn word(&self) -> u32
         ensures { result ≡ self.now.0 }
     {

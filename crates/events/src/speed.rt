@@ -25,9 +25,7 @@ fn digit(cursor: &mut Cursor<'_>) -> Option<u16>
 pub(crate) fn speed(cursor: &mut Cursor<'_>) -> Result<Option<u16>, Illegal>
     ensures { Reads (meaning speed_of speed_at) cursor.old cursor.new result }
 {
-    // by `peek`, not `expect`: where that refuses, its contract does not say that the cursor stays
-    if cursor.peek() == Some(b'L') {
-        cursor.byte()?;
+    if cursor.expect(b'L').is_ok() {
         return Ok(None);
     }
     // digit by digit: a loop would need an invariant that bounds the value, and says no more

@@ -28,6 +28,7 @@ number_of reason.Absent = 13
 number_of reason.Line = 14
 number_of reason.Short = 15
 number_of reason.Value = 16
+number_of (reason.Other n) = n
 
 -- a layer's name as it is printed
 abbrev pub layer_name : Layer → List ℕ

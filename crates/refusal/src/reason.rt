@@ -3,40 +3,43 @@ ghost use Rattle.std.specs.Prelude.{◌≡◌};
 ghost use Rattle.refusal.specs.Refusals.{number_of};
 
 /// Why a call is refused. Each reason has the number under which it is refused.
+// no explicit discriminants: one reason holds its number
 #[derive(Clone, Copy, PartialEq, Eq, Debug)]
 pub enum Reason {
     /// A time is out of range, or before that of the last accepted call.
-    Time = 1,
+    Time,
     /// A setting is out of range.
-    Setting = 2,
+    Setting,
     /// A speed is above the highest.
-    Speed = 3,
+    Speed,
     /// The lever moved by two steps, or a button is already so.
-    Control = 4,
+    Control,
     /// A telegram has a wrong length, or a closing bit that is not zero.
-    Frame = 5,
+    Frame,
     /// The antenna found the CRC bad.
-    Crc = 6,
+    Crc,
     /// A header's direction, version or media is wrong.
-    Header = 7,
+    Header,
     /// N_TOTAL or N_PIG is wrong.
-    Position = 8,
+    Position,
     /// N_TOTAL is not that of the open group that is remembered.
-    OtherTotal = 9,
+    OtherTotal,
     /// No packet 255 ends the telegram, or a packet does not fit.
-    Bounds = 10,
+    Bounds,
     /// A packet 44 or a TBL1+ packet is wrong.
-    Packet = 11,
+    Packet,
     /// No place is free.
-    Full = 12,
+    Full,
     /// No element stands at the place that was named.
-    Absent = 13,
+    Absent,
     /// A line is not legal.
-    Line = 14,
+    Line,
     /// A buffer is too short.
-    Short = 15,
+    Short,
     /// The writer was given a wrong value.
-    Value = 16,
+    Value,
+    /// Another reason, of the host's own, under its number.
+    Other(u8),
 }
 
 impl Reason {
@@ -44,6 +47,24 @@ impl Reason {
     pub fn number(self) -> u8
         ensures { result ≡ number_of self }
     {
-        self as u8
+        match self {
+            Reason::Time => 1,
+            Reason::Setting => 2,
+            Reason::Speed => 3,
+            Reason::Control => 4,
+            Reason::Frame => 5,
+            Reason::Crc => 6,
+            Reason::Header => 7,
+            Reason::Position => 8,
+            Reason::OtherTotal => 9,
+            Reason::Bounds => 10,
+            Reason::Packet => 11,
+            Reason::Full => 12,
+            Reason::Absent => 13,
+            Reason::Line => 14,
+            Reason::Short => 15,
+            Reason::Value => 16,
+            Reason::Other(number) => number,
+        }
     }
 }

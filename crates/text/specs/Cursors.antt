@@ -4,10 +4,10 @@ use Rattle.text.specs.Parts.{Reading}
 use Rattle.text.specs.declared.cursor.Cursor.{Cursor}
 use Rattle.text.specs.declared.fault.Illegal.{Illegal}
 
--- from the place `at` of the line on, the part gives this: its value, and the place behind it is the new one; or the place that is illegal
+-- from the place `at` of the line on, the part gives this: its value, and the place behind it is the new one; or the place that is illegal, which is the new one too
 abbrev pub Gives : {A : Type 0} → (List ℕ → ℕ → Reading A) → List ℕ → ℕ → ℕ → Result A Illegal → Type 0
 Gives part line at new (Ok a) = part line at ≡ Ok (a, new)
-Gives part line at new (Err e) = part line at ≡ Err e.place
+Gives part line at new (Err e) = (part line at ≡ Err e.place) × (new ≡ e.place)
 
 -- the part was read at the cursor's old place, and the line is the same
 abbrev pub Reads : {A : Type 0} → (List ℕ → ℕ → Reading A) → Cursor → Cursor → Result A Illegal → Type 0

@@ -39,12 +39,16 @@ impl Cursor<'_> {
     pub fn word<T: Table>(&mut self) -> Result<T::Value, Illegal>
         ensures { Reads (word_at T.word T.values) self.old self.new result }
     {
-        let place = self.place;
-        let value = pick::<T>(T::all(), &self.line[place..]).map_err(|far| Illegal {
-            place: place + far,
-        })?;
-        self.place += T::text(value).len();
-        Ok(value)
+        match pick::<T>(T::all(), &self.line[self.place..]) {
+            Ok(value) => {
+                self.place += T::text(value).len();
+                Ok(value)
+            }
+            Err(far) => {
+                self.place += far;
+                Err(self.illegal())
+            }
+        }
     }
 
     /// A comma and one word of a table.

@@ -1,4 +1,3 @@
 pub mod Fields
-pub mod Forms
 pub mod Packets
 pub mod Turns

@@ -12,7 +12,6 @@ use Rattle.telegram.specs.Packets.{Lasts, Within, code_packet, directed_packet_i
 use Rattle.telegram.specs.Telegrams.{telegram_bits, EveryPacketRead}
 use Rattle.telegram.specs.declared.packet.Found.{Found}
 use Rattle.telegram.specs.declared.packet.Found.TheVariants.{End, Other, Tbl1}
-use Rattle.telegram.proofs.Forms.{form_bits, form_short}
 use Rattle.telegram.proofs.Packets.{behind_none, packets_over, packets_stop, within_by_length}
 
 code_lasts : (d : Direction) (f s : Option Digit) (at l : ℕ) → l ≡ 48 → Lasts (code_packet d f s at) l
@@ -69,4 +68,4 @@ pub every_packet_read : (bytes : List ℕ) → EveryPacketRead bytes
 every_packet_read bytes more = turns_enough 34 more bytes 50 (telegram_bits (length bytes)) (omega (arith, telegram_short (length bytes)))
 
 -- what the reading of the packets needs, turn by turn
-pub ruleset turn_steps = (form_bits, form_short, behind_none, packets_stop, packets_over, every_packet_read)
+pub ruleset turn_steps = (behind_none, packets_stop, packets_over, every_packet_read)

@@ -1,6 +1,7 @@
 // The two lengths that a telegram can have.
-ghost use Rattle.std.specs.Prelude.{◌≡◌};
+ghost use Rattle.std.specs.Prelude.{◌≡◌, ◌*◌, ◌≤◌};
 ghost use Rattle.telegram.specs.Forms.{form_of};
+ghost use Rattle.telegram.specs.Telegrams.{telegram_bits};
 
 use balise::{LONG, SHORT};
 
@@ -28,4 +29,12 @@ impl Form {
             _ => None,
         }
     }
+}
+
+/// How many bits of a telegram of so many bytes are not closing bits; 0 where a telegram has no such length.
+pub fn telegram_bits(bytes: usize) -> usize
+    ensures value { result ≡ telegram_bits bytes }
+    ensures within { (result ≤ 8 * bytes) × (result ≤ 830) }
+{
+    Form::of(bytes).map_or(0, |form| form.bits)
 }

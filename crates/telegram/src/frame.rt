@@ -5,7 +5,7 @@ ghost use Rattle.telegram.specs.Forms.{form_of};
 ghost use Rattle.telegram.specs.Headers.{header_in};
 
 use crate::bits::BitReader;
-use crate::form::Form;
+use crate::form::{Form, telegram_bits};
 use crate::header::{ask_header, read_header};
 use crate::list::{BLANK, PacketList};
 use crate::packet::{Found, read_packet};
@@ -82,8 +82,8 @@ impl Accepted<'_> {
         ensures value { listed result ≡ packets_in self.now.frame.bytes.now }
         ensures every { EveryPacketRead self.now.frame.bytes.now }
     {
-        let Frame { bytes, form } = self.frame;
-        let end = form.bits;
+        let bytes = self.frame.bytes;
+        let end = telegram_bits(bytes.len());
         let mut list = PacketList::none(BLANK);
         let mut at = PACKETS;
         for _ in 0..MOST_PACKETS {

@@ -1,5 +1,5 @@
 // One packet of a telegram.
-ghost use Rattle.std.specs.Prelude.{◌≡◌, ◌+◌, ◌%◌, ◌≤◌};
+ghost use Rattle.std.specs.Prelude.{◌≡◌, ◌+◌, ◌<◌, ◌≤◌};
 ghost use Rattle.telegram.specs.Packets.{packet_in, user_packet_in, Lasts, Within};
 
 use crate::bits::BitReader;
@@ -21,9 +21,9 @@ const FIXED_BITS: usize = 23;
 const USER_BITS: usize = 32;
 
 /// The packet that begins where `reader` stands, which holds the telegram from the packet's first byte on. In the telegram, whose bits end at `end`, the packet begins at the bit `at`.
-// the bound on the reader's place is its caller's, as in `take`
+// bounds alone, as in `take`: that the reader's place and `at` are one place of the telegram, its caller knows
 pub fn read_packet(mut reader: BitReader<'_>, at: usize, end: usize) -> Result<Found, PacketFault>
-    requires { (reader.place ≡ at % 8) × (at ≤ 830) }
+    requires { (reader.place < 8) × (at ≤ 830) }
     ensures value { result ≡ packet_in reader.entry.bytes.now reader.entry.place at end }
     ensures within { Within result at end }
 {

@@ -24,7 +24,7 @@ pub enum Reason {
     Position,
     /// N_TOTAL is not that of the open group that is remembered.
     OtherTotal,
-    /// No packet 255 ends the telegram, or a packet does not fit.
+    /// No packet 255 ends the telegram, or a packet is too short or does not fit.
     Bounds,
     /// A packet 44 or a TBL1+ packet is wrong.
     Packet,

@@ -32,7 +32,11 @@ this_sound b = sound_read (this_at b) same (word_sound (λ _. b ∷ []) tt [] re
         here c [] = ways (eqb c b)
         here c (x ∷ xs) = ways (eqb c b)
 
+-- a field whose words are those of a table
+pub fields_sound : {A : Type 0} (word : A → List ℕ) (a : A) (others : List A) → prefix_free word (a ∷ others) ≡ true → Sound (λ x. Among x (a ∷ others)) (λ x. 44 ∷ word x) (field_at word (a ∷ others))
+unfolding field_at
+fields_sound {A} word a others free = sound_then All (λ _. 44 ∷ []) (λ x. Among x (a ∷ others)) word (λ x. tt) (this_sound 44) (λ x g. tt) (λ u g. (a, (inl refl, refl))) (λ u g. sound_good (Having (λ x. Among x (a ∷ others)) (λ x. tt) u) (λ x h. (h, refl)) (λ x h. h.0) (words_sound word (a ∷ others) free (omega arith)))
+
 -- a field whose table has every value
 pub field_sound : {A : Type 0} (word : A → List ℕ) (a : A) (others : List A) → prefix_free word (a ∷ others) ≡ true → ((x : A) → Among x (a ∷ others)) → Sound All (λ x. 44 ∷ word x) (field_at word (a ∷ others))
-unfolding field_at
-field_sound word a others free every = sound_then All (λ _. 44 ∷ []) All word (λ x. tt) (this_sound 44) (λ x g. tt) (λ u g. (a, (tt, refl))) (λ u g. sound_good (Having All (λ x. tt) u) (λ x h. (h, refl)) (λ x h. h.0) (word_sound word a others free every))
+field_sound word a others free every = sound_good All (λ x h. tt) (λ x h. every x) (fields_sound word a others free)

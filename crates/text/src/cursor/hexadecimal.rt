@@ -9,6 +9,7 @@ use super::Cursor;
 use crate::fault::Illegal;
 use few::Few;
 
+// a digit's value by hand, as in the decimal numbers
 /// The value of a hexadecimal digit, capitals only.
 fn hex_value(byte: u8) -> Option<u8>
     ensures value { result ≡ hex_value byte }

@@ -11,6 +11,7 @@ fn opened(byte: u8, limit: u64) -> Option<u64>
     ensures value { result ≡ opened limit byte }
     ensures within { IfSome result (λ n. n ≤ limit) }
 {
+    // a digit's value by hand, here and below: a function for one subtraction would say no more
     if !byte.is_ascii_digit() || u64::from(byte - b'0') > limit {
         return None;
     }

@@ -44,9 +44,9 @@ impl<A: Answerer + Drop> Dialogue<A> {
             let _ = self.line.push(byte);
             return Ok(());
         }
-        let line = self.line;
+        let answered = self.answerer.answer(self.line.as_slice(), answers);
         self.line.clear();
-        self.answerer.answer(line.as_slice(), answers)?;
+        answered?;
         answers.write_char('\n')
     }
 

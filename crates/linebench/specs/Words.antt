@@ -36,5 +36,5 @@ happening_text (telegram crc bytes) = codes "telegram," ++ crc_text crc ++ codes
 -- a strip line as it was; an event line's time and what happened then
 abbrev pub shown_text : Shown → List ℕ
 shown_text (Strip r) = strip_text (entry_of r)
-shown_text (Event l) = decimal l.time ++ codes "," ++ happening_text (heard l)
+shown_text (Event l) = decimal l.now.time ++ codes "," ++ happening_text (heard l.now)
 shown_text Unknown = codes "?"

@@ -16,11 +16,11 @@ use text::Hex;
 /// The answer to a line that is not refused.
 // neither `PartialEq` nor `Debug`, as `EventLine`
 #[derive(Clone, Copy)]
-pub enum Shown {
+pub enum Shown<'a> {
     /// The record that a strip line reads as.
     Strip(Record),
     /// What an event line says.
-    Event(EventLine),
+    Event(&'a EventLine),
     /// The line is of neither kind.
     Unknown,
 }
@@ -34,7 +34,7 @@ struct Strip(Record);
 struct Happening<'a>(Event<Reception<'a>>);
 
 /// A strip line as it is written; an event line's time and what happened then.
-impl fmt::Display for Shown {
+impl fmt::Display for Shown<'_> {
     ghost output = { λ shown. Some (shown_text shown) };
 
     fn fmt<W: fmt::Write>(&self, f: &mut Formatter<W>) -> fmt::Result {

@@ -1,4 +1,7 @@
 // What each line is answered by.
+ghost use Rattle.std.specs.Prelude.{◌≡◌, ◌++◌, OnOk, string_bytes};
+ghost use Rattle.linebench.specs.Words.{shown_text};
+
 use crate::shown::Shown;
 use console::Answerer;
 use events::read_event;
@@ -12,20 +15,29 @@ use std::fmt::Write;
 pub struct Transcript;
 
 impl Answerer for Transcript {
+    // on its own, so that a byte that ends no line doesn't save what only an answer needs
+    #[inline(never)]
     fn answer(&mut self, line: &[u8], answers: &mut String) -> fmt::Result {
-        match reply(line) {
-            Ok(shown) => write!(answers, "{shown}")?,
-            Err(refusal) => write!(answers, "{refusal}")?,
+        match reply(line, answers) {
+            Ok(written) => written,
+            Err(refusal) => Ok(write!(answers, "{refusal}")?),
         }
-        Ok(())
     }
 }
 
-/// What a line reads as.
-fn reply(line: &[u8]) -> Result<Shown, Refusal> {
+/// Writes what a line reads as, if it is not refused.
+// each kind of line writes for itself: in one value for all, each answer would be as large as an event line with its telegram
+fn reply(line: &[u8], answers: &mut String) -> Result<fmt::Result, Refusal> {
     match line {
-        [b'S', rest @ ..] => Ok(Shown::Strip(read_strip(rest)?)),
-        [b'E', rest @ ..] => Ok(Shown::Event(read_event(rest)?)),
-        _ => Ok(Shown::Unknown),
+        [b'S', rest @ ..] => Ok(show(Shown::Strip(read_strip(rest)?), answers)),
+        [b'E', rest @ ..] => Ok(show(Shown::Event(&read_event(rest)?), answers)),
+        _ => Ok(show(Shown::Unknown, answers)),
     }
+}
+
+/// Writes the answer to a line that is not refused.
+fn show(shown: Shown<'_>, answers: &mut String) -> fmt::Result
+    ensures { OnOk result (string_bytes answers.new ≡ string_bytes answers.old ++ shown_text shown.entry) }
+{
+    Ok(write!(answers, "{shown}")?)
 }

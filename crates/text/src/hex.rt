@@ -1,8 +1,33 @@
 // Bytes as they are written in a line.
-ghost use Rattle.std.specs.Prelude.{Some};
-ghost use Rattle.text.specs.Hexes.{hex_byte, hex_text};
+ghost use Rattle.std.specs.Prelude.{◌≡◌, ◌<◌, [], ◌∷◌, Some};
+ghost use Rattle.text.specs.Hexes.{hex_byte, hex_digit, hex_text};
 
 use std::fmt;
+
+/// The digit of a value below 16.
+fn digit(value: u8) -> &'static str
+    requires { value < 16 }
+    ensures { result.now ≡ hex_digit value ∷ [] }
+{
+    match value {
+        0 => "0",
+        1 => "1",
+        2 => "2",
+        3 => "3",
+        4 => "4",
+        5 => "5",
+        6 => "6",
+        7 => "7",
+        8 => "8",
+        9 => "9",
+        10 => "A",
+        11 => "B",
+        12 => "C",
+        13 => "D",
+        14 => "E",
+        _ => "F",
+    }
+}
 
 /// A byte as it is written in a line.
 // a type of its own, so that its text is stated once, and the loop's invariant stays short
@@ -12,10 +37,10 @@ struct HexByte(u8);
 impl fmt::Display for HexByte {
     ghost output = { λ byte. Some (hex_byte byte.0) };
 
-    #[tactic(auto, using(std::proofs::lemmas::Fmt::hex_byte))]
     fn fmt<W: fmt::Write>(&self, f: &mut fmt::Formatter<W>) -> fmt::Result {
         let byte = self.0;
-        write!(f, "{byte:02X}")
+        f.write_str(digit(byte / 16))?;
+        f.write_str(digit(byte % 16))
     }
 }
 

@@ -5,6 +5,7 @@ use crate::valve::Valve;
 use crate::valve::contacts::ContactPair;
 use crate::valve::word::OutputWord;
 use cab::{Kind, Lamp, Mode, Panel, Record, Time};
+use refusal::{Layer, Reason, Refusal};
 use slot_log::{Log, LogFault};
 use std::test::Fail;
 
@@ -52,5 +53,22 @@ fn the_maintenance_store_is_a_log(rt: HostRuntime) -> Result<(), Fail> {
     store_fault(&mut store, Time::zero(), LogFault::Full.into())?;
     assert!(rt; store_fault(&mut store, Time::zero(), LogFault::Absent.into()).is_err());
     assert_eq!(rt; store.read(0)?.refusal.number(), 12);
+    Ok(())
+}
+
+#[test]
+fn the_maintenance_store_takes_a_number_of_the_hosts_own(rt: HostRuntime) -> Result<(), Fail> {
+    let own = Refusal {
+        reason: Reason::Other(77),
+        place: 3,
+        layer: Layer::Unit,
+    };
+    let mut slots = [FaultEntry {
+        time: Time::zero(),
+        refusal: LogFault::Absent.into(),
+    }; 1];
+    let mut store = Log::new(&mut slots);
+    store_fault(&mut store, Time::zero(), own)?;
+    assert_eq!(rt; store.read(0)?.refusal.number(), 77);
     Ok(())
 }

@@ -14,7 +14,7 @@ use std::fmt::Formatter;
 use text::Hex;
 
 /// The answer to a line that is not refused.
-// neither `PartialEq` nor `Debug`, as `EventLine`
+// neither `PartialEq` nor `Debug`, as `EventLine`, which is lent, since it is large
 #[derive(Clone, Copy)]
 pub enum Shown<'a> {
     /// The record that a strip line reads as.

@@ -15,7 +15,7 @@ use std::fmt::Write;
 pub struct Transcript;
 
 impl Answerer for Transcript {
-    // on its own, so that a byte that ends no line doesn't save what only an answer needs
+    // not inlined, so that a byte that ends no line doesn't pay for what an answer needs
     #[inline(never)]
     fn answer(&mut self, line: &[u8], answers: &mut String) -> fmt::Result {
         match reply(line, answers) {
@@ -26,7 +26,7 @@ impl Answerer for Transcript {
 }
 
 /// Writes what a line reads as, if it is not refused.
-// each kind of line writes for itself: in one value for all, each answer would be as large as an event line with its telegram
+// each kind of line writes its own: a value for all of them would be as large as an event line with its telegram, and built at each line
 fn reply(line: &[u8], answers: &mut String) -> Result<fmt::Result, Refusal> {
     match line {
         [b'S', rest @ ..] => Ok(show(Shown::Strip(read_strip(rest)?), answers)),

@@ -39,6 +39,7 @@ impl fmt::Display for HexByte {
 
     fn fmt<W: fmt::Write>(&self, f: &mut fmt::Formatter<W>) -> fmt::Result {
         let byte = self.0;
+        // digit by digit: `{byte:02X}` takes several times as long
         f.write_str(digit(byte / 16))?;
         f.write_str(digit(byte % 16))
     }

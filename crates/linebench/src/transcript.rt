@@ -39,5 +39,9 @@ fn reply(line: &[u8], answers: &mut String) -> Result<fmt::Result, Refusal> {
 fn show(shown: Shown<'_>, answers: &mut String) -> fmt::Result
     ensures { OnOk result (string_bytes answers.new ≡ string_bytes answers.old ++ shown_text shown.entry) }
 {
-    Ok(write!(answers, "{shown}")?)
+    match shown {
+        // what `{}` writes of it too, with no formatter made
+        Shown::Unknown => answers.write_str("?"),
+        _ => Ok(write!(answers, "{shown}")?),
+    }
 }
